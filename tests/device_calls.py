@@ -127,11 +127,11 @@ class Run(NamedTuple):
         for line in front:
             yield from put(line, devices.put)
         if self.pulls():
-            yield from self._talk(lines, devices)
+            yield from self._exchange(lines, devices)
         for line in back:
             yield from put(line, devices.put)
 
-    def _talk(self, lines: list[Answered], devices: Devices) -> Iterator[Call]:
+    def _exchange(self, lines: list[Answered], devices: Devices) -> Iterator[Call]:
         """The pulls of the script, each with the puts of the replies to the lines that end in its piece."""
         at, ended = 0, 0
         while True:

@@ -89,7 +89,7 @@ WAYS = (Devices(), Devices(fetched=50, pulled=5, put=1), Devices(pulled=1, put=2
 BY_BYTE = Devices(pulled=1)
 
 
-class Talk(NamedTuple):
+class Exchange(NamedTuple):
     """A run by devices, the calls that are due and what comes of them."""
 
     what: str
@@ -99,21 +99,21 @@ class Talk(NamedTuple):
     due: Ended
 
 
-def undisturbed(what: str, of: Run, devices: Devices) -> Talk:
+def undisturbed(what: str, of: Run, devices: Devices) -> Exchange:
     """The run where no call fails."""
-    return Talk(what, of, devices, of.calls(devices), Ended.due(of.text, of.status))
+    return Exchange(what, of, devices, of.calls(devices), Ended.due(of.text, of.status))
 
 
-def disturbed(what: str, of: Run, devices: Devices) -> Iterator[Talk]:
+def disturbed(what: str, of: Run, devices: Devices) -> Iterator[Exchange]:
     """The run once with each call failing."""
     calls = of.calls(devices)
     for number, call in enumerate(calls, 1):
         before = calls[:number - 1]
         due = Ended.due(of.text[:taken(before)], call.status())
-        yield Talk(f"{what}: call {number}, {call.asked}, fails", of, devices._replace(failing=number), [*before, call.fails()], due)
+        yield Exchange(f"{what}: call {number}, {call.asked}, fails", of, devices._replace(failing=number), [*before, call.fails()], due)
 
 
-def talks_of_forms() -> Iterator[Talk]:
+def exchanges_of_forms() -> Iterator[Exchange]:
     """Each form of the words."""
     for words, script, text, status in FORMS:
         of = Run(words.split(), FILES, script, text, status)
@@ -123,29 +123,29 @@ def talks_of_forms() -> Iterator[Talk]:
             yield from disturbed(what, of, devices)
 
 
-def talks_at_limits() -> Iterator[Talk]:
+def exchanges_at_limits() -> Iterator[Exchange]:
     """Files and scripts of the greatest length, and longer by a byte; lines of the greatest length in pieces of about as many bytes."""
-    def talk(words: str, script: bytes, text: bytes, status: int, long: bytes = b"") -> Talk:
+    def exchange(words: str, script: bytes, text: bytes, status: int, long: bytes = b"") -> Exchange:
         what = f"{words} of a script of {len(script)} bytes, where `long` has {len(long)}"
         return undisturbed(what, Run(words.split(), {**FILES, "long": long}, script, text, status), Devices())
 
     longest = DICTIONARY.ljust(LONGEST_DICTIONARY)
-    yield talk("check long", b"", ACCEPTED, 0, long=longest)
-    yield talk("check long", b"", b"dictionary refused 1 TooLong\n", 1, long=longest + b" ")
-    yield talk("load d long", SCRIPT, b"saved refused line 3\n", 8, long=b"saved 1\nnext 1\n".ljust(LONGEST_TEXT, b"\n"))
-    yield talk("load d long", SCRIPT, b"saved refused line 0\n", 8, long=b"saved 1\nnext 1\n".ljust(LONGEST_TEXT + 1, b"\n"))
+    yield exchange("check long", b"", ACCEPTED, 0, long=longest)
+    yield exchange("check long", b"", b"dictionary refused 1 TooLong\n", 1, long=longest + b" ")
+    yield exchange("load d long", SCRIPT, b"saved refused line 3\n", 8, long=b"saved 1\nnext 1\n".ljust(LONGEST_TEXT, b"\n"))
+    yield exchange("load d long", SCRIPT, b"saved refused line 0\n", 8, long=b"saved 1\nnext 1\n".ljust(LONGEST_TEXT + 1, b"\n"))
     script = SCRIPT + b"get /a\n#"
-    yield talk("run d", script.ljust(LONGEST_SCRIPT), REPLIES + b"complete 5.00\nrefused 2 LongLine\n", 0)
-    yield talk("run d", script.ljust(LONGEST_SCRIPT + 1), REPLIES + b"complete 5.00\n", 6)
-    yield talk("save d", script.ljust(LONGEST_SCRIPT + 1), b"", 6)
-    yield talk("run d", b"quit\n".ljust(LONGEST_SCRIPT + 1), b"", 0)
+    yield exchange("run d", script.ljust(LONGEST_SCRIPT), REPLIES + b"complete 5.00\nrefused 2 LongLine\n", 0)
+    yield exchange("run d", script.ljust(LONGEST_SCRIPT + 1), REPLIES + b"complete 5.00\n", 6)
+    yield exchange("save d", script.ljust(LONGEST_SCRIPT + 1), b"", 6)
+    yield exchange("run d", b"quit\n".ljust(LONGEST_SCRIPT + 1), b"", 0)
     lines = b"\n# note\nset /a 5\r\n" + b"0" * 4096 + b"\n" + b"0" * 4097 + b"\nget /a"
     text = b"ok\nrefused 1 BadLine\nrefused 2 LongLine\ncomplete 5.00\n"
     for pulled in (1, 7, 4095, 4096, 4097):
         yield undisturbed(f"lines of the greatest length in pieces of {pulled} bytes", Run(["run", "d"], FILES, lines, text, 0), Devices(pulled=pulled, put=1))
 
 
-def talks_of_cases() -> Iterator[Talk]:
+def exchanges_of_cases() -> Iterator[Exchange]:
     """The stored cases that are written out."""
     for path in files_of_cases():
         for case in cases_of(path) if path.suffix == ".row" else ():
@@ -168,20 +168,20 @@ def wrong_with(came: list[str], due: list[Call]) -> str:
     return f"call {at + 1}: expected {shown[0]}, came {shown[1]}"
 
 
-def wrong_in(program: Path, library: Path, talk: Talk) -> str:
+def wrong_in(program: Path, library: Path, exchange: Exchange) -> str:
     """What is wrong with a run; no text where nothing is."""
     with tempfile.TemporaryDirectory(prefix="fail_devices.") as path:
         folder, calls = Path(path, "folder"), Path(path, "calls")
         folder.mkdir()
-        for name, content in talk.run.files.items():
+        for name, content in exchange.run.files.items():
             (folder / name).write_bytes(content)
         script = Path(path, "script")
-        script.write_bytes(talk.run.script)
+        script.write_bytes(exchange.run.script)
         with open(script, "rb") as source:
-            came = run([program, *talk.run.words], folder, source, {"LD_PRELOAD": str(library), "CALLS": str(calls), **talk.devices.variables()})
+            came = run([program, *exchange.run.words], folder, source, {"LD_PRELOAD": str(library), "CALLS": str(calls), **exchange.devices.variables()})
         made = calls.read_bytes().decode(errors="replace").splitlines() if calls.exists() else []
-    ended = "" if came == talk.due else f"expected {talk.due!r}, came {came!r}"
-    return "; ".join(filter(None, (wrong_with(made, talk.calls), ended)))
+    ended = "" if came == exchange.due else f"expected {exchange.due!r}, came {came!r}"
+    return "; ".join(filter(None, (wrong_with(made, exchange.calls), ended)))
 
 
 def main(argv: list[str]) -> int:
@@ -192,9 +192,9 @@ def main(argv: list[str]) -> int:
     tally = Tally()
     with tempfile.TemporaryDirectory(prefix="fail_devices.") as path, ThreadPoolExecutor(os.cpu_count()) as pool:
         library = compiled(TOP / "tests/preload/failing_devices.c", Path(path, "failing.so"), "-O1", "-shared", "-fPIC", "-ldl")
-        talks = [*talks_of_forms(), *talks_at_limits(), *talks_of_cases()]
-        for talk, wrong in zip(talks, pool.map(lambda it: wrong_in(program, library, it), talks)):
-            tally.judge(talk.what, wrong)
+        exchanges = [*exchanges_of_forms(), *exchanges_at_limits(), *exchanges_of_cases()]
+        for exchange, wrong in zip(exchanges, pool.map(lambda it: wrong_in(program, library, it), exchanges)):
+            tally.judge(exchange.what, wrong)
     return tally.end()
 
 

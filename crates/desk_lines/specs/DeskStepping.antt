@@ -15,7 +15,7 @@ use Rattle.shared_desk.specs.declared.refusal.DeskRefusal.{DeskRefusal}
 use Rattle.shared_desk.specs.declared.refusal.DeskRefusal.TheVariants as desk
 use Rattle.session_lines.specs.Replies.{bad_line_text, long_line_text, missing_output, numbered, refusal_text, reply_text}
 use Rattle.session_lines.specs.Marks as marks
-use Rattle.session_lines.specs.declared.mark.Mark.TheVariants.{Party}
+use Rattle.session_lines.specs.declared.mark.PartyMark.TheVariants.{Party}
 use Rattle.desk_lines.specs.PartyLines.{party_said_in}
 use Rattle.desk_lines.specs.declared.party_line.PartyLine.{PartyLine}
 use Rattle.desk_lines.specs.declared.party_line.PartyLine.TheVariants.{Silent, NoParty, NoCommand, Asks}

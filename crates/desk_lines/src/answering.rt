@@ -16,7 +16,7 @@ use dictionary::FactEngine;
 use fact_values::NoMemory;
 use fg_io::Sink;
 use script_lines::Ready;
-use session_lines::{Mark, Progress, write_ended, write_line};
+use session_lines::{PartyMark, Progress, write_ended, write_line};
 use shared_desk::Desk;
 use std::alloc::Global;
 use std::sync::ledger::Ledger;
@@ -50,7 +50,7 @@ fn answer_said<E: FactEngine, L: Ledger, K: Sink>(
         PartyLine::NoCommand(party) => {
             let mut text = Line::new();
             text.push(b"refused 1 BadLine");
-            write_line(Mark::Party(*party), &mut text, out)
+            write_line(PartyMark::Party(*party), &mut text, out)
         }
         PartyLine::Asks(party, command) => {
             answer_command(alloc, desk, *party, command, checks, out, steps)

@@ -13,7 +13,7 @@ use crate::writing::write_refusal;
 use dictionary::FactEngine;
 use fg_io::Sink;
 use script_lines::{Command, Kind};
-use session_lines::{Mark, Progress, answer_missing, write_reply};
+use session_lines::{PartyMark, Progress, answer_missing, write_reply};
 use shared_desk::Desk;
 use std::alloc::Global;
 use std::sync::ledger::Ledger;
@@ -51,7 +51,7 @@ fn answer_session_command<E: FactEngine, L: Ledger, K: Sink>(
         (session_state desk.old.session) command.now }
 {
     match desk.line(party, command, checks, steps) {
-        Ok(reply) => write_reply(desk.session(), Mark::Party(party), reply, out),
+        Ok(reply) => write_reply(desk.session(), PartyMark::Party(party), reply, out),
         Err(refusal) => write_refusal(party, refusal, out),
     }
 }
@@ -72,7 +72,7 @@ fn answer_host_command<E: FactEngine, K: Sink>(
 {
     match command {
         Command::Missing(path) => {
-            answer_missing(alloc, desk.session(), Mark::Party(party), path, out)
+            answer_missing(alloc, desk.session(), PartyMark::Party(party), path, out)
         }
         _ => Progress::Over,
     }

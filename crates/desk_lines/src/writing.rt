@@ -6,7 +6,7 @@ ghost use Rattle.desk_lines.specs.DeskAnswering.{DeskRefusedAs};
 use crate::reply::print_desk_refusal;
 use fg_io::Sink;
 use graph_session::is_want_of_memory;
-use session_lines::{Mark, Progress, write_line};
+use session_lines::{PartyMark, Progress, write_line};
 use shared_desk::DeskRefusal;
 use value_text::Line;
 
@@ -30,5 +30,5 @@ pub fn write_refusal<K: Sink>(party: u32, refusal: DeskRefusal, out: &mut K) -> 
     }
     let mut text = Line::new();
     print_desk_refusal(refusal, &mut text);
-    write_line(Mark::Party(party), &mut text, out)
+    write_line(PartyMark::Party(party), &mut text, out)
 }

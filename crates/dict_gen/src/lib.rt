@@ -3,9 +3,9 @@
 
 mod laws;
 mod lines;
-mod made;
+mod load;
 mod script;
 mod source;
 
 pub use laws::{the_load_has_its_size, the_script_is_read_line_by_line};
-pub use made::{Made, make};
+pub use load::{Load, make};

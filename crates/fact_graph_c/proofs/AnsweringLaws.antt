@@ -75,7 +75,7 @@ module _ (old new : Engine) (line : List ℕ) where
 
   -- the reply to the line was taken whole, where nothing was said before
   pub takes_step : (over : Bool) (relations : List Named) (lines : List ScriptLine)
-      → Serves relations old.watches.pairs line → lines ≡ line_given line ∷ []
+      → Serves relations old.watches.watched line → lines ≡ line_given line ∷ []
       → old.over ≡ false → said old ≡ [] → new.over ≡ over
       → Sent (Some (old.text.room ∷ said old)) (Some (new.text.room ∷ said new)) (joined (replies (rules_of old) (here relations) lines)) []
       → state_after (rules_of old) (here relations) lines ≡ record { standing = line_state_of new.session relations new.watches; over = over }
@@ -115,8 +115,8 @@ stays old new relations empty kept over = record { text = empty; state = λ i. r
 
 -- the text was longer than the room for it, so that its step changes nothing
 pub stays_full : (old : Engine) (line : List ℕ) (session : SessionView) (watches : Watching) (text : Text) (relations : List Named) (lines : List ScriptLine) (rest : List ℕ)
-    → IsSound old → room_for (length old.watches.pairs) ≤ old.text.room → AnswersFit (accepted session.dict).tree session.timeline.now → session.dict ≡ old.session.dict
-    → Serves relations old.watches.pairs line → lines ≡ line_given line ∷ [] → said old ≡ [] → RoseByOne old.text.faults text.faults
+    → IsSound old → room_for (length old.watches.watched) ≤ old.text.room → AnswersFit (accepted session.dict).tree session.timeline.now → session.dict ≡ old.session.dict
+    → Serves relations old.watches.watched line → lines ≡ line_given line ∷ [] → said old ≡ [] → RoseByOne old.text.faults text.faults
     → Sent (Some (old.text.room ∷ said old)) (Some (text.room ∷ text.bytes.items)) (joined (replies (rules_of old) (open_at (line_state_of old.session relations old.watches)) lines)) rest
     → state_after (rules_of old) (open_at (line_state_of old.session relations old.watches)) lines ≡ open_at (line_state_of session relations watches)
     → line_state_of session relations watches ≡ line_state_of old.session relations old.watches
@@ -127,6 +127,6 @@ stays_full old line session watches text relations lines rest sound roomy fit sa
     let fits : AnswersFit (accepted old.session.dict).tree session.timeline.now = subst (λ (k : AcceptedParts). AnswersFit (accepted k).tree session.timeline.now) same fit in
     let whole_text : joined (replies r (open_at here) lines) ≡ text_of made = ap (λ (ls : List ScriptLine). joined (replies r (open_at here) ls)) given ∙ ap joined (append-nil made.lines) in
     let filled : text.room ≤ length text.bytes.items = text.full (omega (arith, rose.0)) in
-    let roomy_still : room_for (length old.watches.pairs) ≤ text.room = subst (λ (n : ℕ). room_for (length old.watches.pairs) ≤ n) (sym (room_stays _ _ _ _ _ rest sent)) roomy in
+    let roomy_still : room_for (length old.watches.watched) ≤ text.room = subst (λ (n : ℕ). room_for (length old.watches.watched) ≤ n) (sym (room_stays _ _ _ _ _ rest sent)) roomy in
     let long_text : text.room ≤ length (text_of made) = omega (arith, filled, ap length (put_behind _ _ _ _ _ rest sent), length-append (said old) sent.front, ap length empty, ap length sent.split, length-append sent.front rest, ap length whole_text) in
-    fills_still r here (line_state_of session relations watches) sound.is_accepted sound.fit.well fits (short_names relations old.watches.pairs line serves) text.room roomy_still (line_given line) (ap (state_after r (open_at here)) (sym given) ∙ left) long_text
+    fills_still r here (line_state_of session relations watches) sound.is_accepted sound.fit.well fits (short_names relations old.watches.watched line serves) text.room roomy_still (line_given line) (ap (state_after r (open_at here)) (sym given) ∙ left) long_text

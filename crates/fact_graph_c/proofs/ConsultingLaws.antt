@@ -8,7 +8,7 @@ use Rattle.script_lines.proofs.CommandLaws.{heard_exactly}
 use Rattle.script_lines.specs.declared.command.Command.{Command}
 use Rattle.script_lines.specs.declared.command.Command.TheVariants as commands
 use Rattle.dictionary.specs.AcceptedParts.{Named}
-use Rattle.fact_watch.specs.Watching.{Pair}
+use Rattle.fact_watch.specs.Watching.{Watch}
 use Rattle.graph_session.specs.Refusals.{asks_checks}
 use Rattle.graph_session.specs.Rules.{Rules}
 use Rattle.graph_session.specs.SessionView.{SessionState}
@@ -126,11 +126,11 @@ module _ (r : Rules) (c : SessionState) where
 -- ---- tables
 
 -- nothing is watched where the number of watches is 0
-pub none_watched : (pairs : List Pair) → length pairs ≡ 0 → pairs ≡ []
+pub none_watched : (watched : List Watch) → length watched ≡ 0 → watched ≡ []
 none_watched [] none = refl
 none_watched (p ∷ ps) none = absurd cc
 
 -- the names of relations that serve a line are short
-pub short_names : (relations : List Named) (pairs : List Pair) (line : List ℕ) → Serves relations pairs line → (place : ℕ) → length (name_at relations place) ≤ 9
-short_names relations pairs line (inl standard) place = subst (λ (ns : List Named). length (name_at ns place) ≤ 9) (sym standard) (standard_short place)
-short_names relations pairs line (inr none) place = subst (λ (ns : List Named). length (name_at ns place) ≤ 9) (sym none.0) (omega arith)
+pub short_names : (relations : List Named) (watched : List Watch) (line : List ℕ) → Serves relations watched line → (place : ℕ) → length (name_at relations place) ≤ 9
+short_names relations watched line (inl standard) place = subst (λ (ns : List Named). length (name_at ns place) ≤ 9) (sym standard) (standard_short place)
+short_names relations watched line (inr none) place = subst (λ (ns : List Named). length (name_at ns place) ≤ 9) (sym none.0) (omega arith)

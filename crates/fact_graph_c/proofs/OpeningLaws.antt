@@ -27,7 +27,7 @@ use Rattle.fact_graph_c.specs.declared.fault.NotBegun.TheVariants.{Dictionary}
 pub is_begun : (k : AcceptedParts) (a : Answered) (front : List ℕ) (e : Engine) → e.session ≡ start_at k a true → e.watches ≡ nothing_watched → e.over ≡ false → said e ≡ front → IsBegun (rules k) a front e
 is_begun k a front e session watches over text = record {
   by = ap (λ (s : SessionView). rules s.dict) session;
-  state = λ i. record { standing = record { session_state = session_state (session i); relations = standard_relations; watched = (watches i).pairs }; over = over i };
+  state = λ i. record { standing = record { session_state = session_state (session i); relations = standard_relations; watched = (watches i).watched }; over = over i };
   text = text;
 }
 

@@ -22,9 +22,9 @@ use Rattle.graph_session.specs.SessionView.{SessionState}
 use Rattle.graph_session.specs.Step as session
 use Rattle.graph_session.specs.declared.reply.Refusal.{Refusal}
 use Rattle.graph_session.specs.declared.reply.Reply.{Reply}
-use Rattle.fact_watch.specs.Refusals.{pair_of, unwatch_refusal, watch_refusal}
+use Rattle.fact_watch.specs.Refusals.{unwatch_refusal, watch_of, watch_refusal}
 use Rattle.fact_watch.specs.Says.{slot_says}
-use Rattle.fact_watch.specs.Watching.{Pair, code_at, without}
+use Rattle.fact_watch.specs.Watching.{Watch, code_at, without}
 use Rattle.fact_watch.specs.declared.commands.WatchRefusal.{WatchRefusal}
 use Rattle.session_lines.specs.Firing.{firing, firing_lines, name_at, watch_line}
 use Rattle.session_lines.specs.Replies.{bad_line_text, long_line_text, missing_output, refusal_text, reply_text, watch_refusal_text}
@@ -53,24 +53,24 @@ module _ (r : Rules) (s now : LineState) (is_accepted : IsAccepted (names_of r.c
   abbrev results_now : Results
   results_now = plain r.accepted now.session_state.timeline.now
 
-  abbrev says : Pair → Bool
+  abbrev says : Watch → Bool
   says p = slot_says (code_at (λ (n : Named). n.1) s.relations p.0) (results p.1) (results_now p.1)
 
   -- a slot that has a result stands, and its path is short
-  slot_said : (p : Pair) → says p ≡ true → length (slot_text (tree_of r) p.1) ≤ 140
+  slot_said : (p : Watch) → says p ≡ true → length (slot_text (tree_of r) p.1) ≤ 140
   slot_said p said_so =
       let there = said_stands (tree_of r) s.relations results results_now p said_so in
       let stand = stands_with r.accepted now.session_state.timeline.now p.1 there.0 there.1 in
       slot_short (names_of r.checks) r.accepted is_accepted p.1 (standing_slot (tree_of r) now.session_state.timeline.now fit.well fit.from_one p.1 stand)
 
-  line_short : (p : Pair) → says p ≡ true → length (watch_line (tree_of r) s.relations p) ≤ 160
+  line_short : (p : Watch) → says p ≡ true → length (watch_line (tree_of r) s.relations p) ≤ 160
   line_short p said_so =
       omega (arith, slot_said p said_so, named_short p.0, length-append (name_at s.relations p.0) (codes " " ++ slot_text (tree_of r) p.1))
 
-  abbrev lines : List Pair → List ℕ
-  lines pairs = joined (firing_lines (tree_of r) s.relations results results_now pairs)
+  abbrev lines : List Watch → List ℕ
+  lines watched = joined (firing_lines (tree_of r) s.relations results results_now watched)
 
-  lines_short : (pairs : List Pair) → length (lines pairs) ≤ 161 * length pairs
+  lines_short : (watched : List Watch) → length (lines watched) ≤ 161 * length watched
   lines_short [] = omega arith
   lines_short (p ∷ ps) = by (says p) refl (lines_short ps)
     where
@@ -132,16 +132,16 @@ module _ (r : Rules) (s now : LineState) (is_accepted : IsAccepted (names_of r.c
       by at full false question = sym at ∙ ap (λ (d : SessionState). record s { session_state = d }) (same question)
 
   -- of a watch
-  watched : (pairs : List Pair) (o : Option WatchRefusal) → FillsStill (watch_decided s pairs o)
-  watched pairs None = λ is full. absurd (omega (arith, full, roomy))
-  watched pairs (Some refusal) = writing (watch_refusal_text refusal)
+  watch_decides : (watched : List Watch) (o : Option WatchRefusal) → FillsStill (watch_decided s watched o)
+  watch_decides watched None = λ is full. absurd (omega (arith, full, roomy))
+  watch_decides watched (Some refusal) = writing (watch_refusal_text refusal)
 
   put : (name : List ℕ) (found : Result Slot Refusal) → FillsStill (put_watch s name found)
-  put name (Ok slot) = watched (s.watched ++ pair_of (place_in s.relations name) slot ∷ []) (watch_refusal (place_in s.relations name) s.watched slot)
+  put name (Ok slot) = watch_decides (s.watched ++ watch_of (place_in s.relations name) slot ∷ []) (watch_refusal (place_in s.relations name) s.watched slot)
   put name (Err refusal) = writing (refusal_text refusal)
 
   cut : (name : List ℕ) (found : Result Slot Refusal) → FillsStill (cut_watch s name found)
-  cut name (Ok slot) = watched (without (pair_of (place_in s.relations name) slot) s.watched) (unwatch_refusal (place_in s.relations name) s.watched slot)
+  cut name (Ok slot) = watch_decides (without (watch_of (place_in s.relations name) slot) s.watched) (unwatch_refusal (place_in s.relations name) s.watched slot)
   cut name (Err refusal) = writing (refusal_text refusal)
 
   commanded : (asked : Command) → FillsStill (step_command r s asked)

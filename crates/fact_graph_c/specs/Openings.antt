@@ -8,7 +8,7 @@ use Rattle.dictionary.specs.Faults.{AreAccepted, IsFault, Refuses}
 use Rattle.dict_meaning.specs.Fits.{AnswersFit}
 use Rattle.dictionary.specs.declared.fault.DictFault.TheVariants.{NoMemory}
 use Rattle.graph_session.specs.Rules.{Rules, tree_of}
-use Rattle.session_lines.specs.Stepping.{Terms, at_start}
+use Rattle.session_lines.specs.Stepping.{ScriptStart, at_start}
 use Rattle.saved_text.specs.CarriedText.{IsCarriedText}
 use Rattle.save_file.specs.Carrying.{IsCarry}
 use Rattle.save_file.specs.Dropped.{dropped_text}
@@ -28,13 +28,13 @@ use Rattle.fact_graph_c.specs.declared.fault.NotBegun.TheVariants.{Dictionary, S
 -- ---- begun
 
 -- changes are numbered, and slots may be watched by the standard relations
-abbrev pub terms_of : Answered → Terms
-terms_of a = record { answers = a; stamps = true; relations = standard_relations }
+abbrev pub script_start_of : Answered → ScriptStart
+script_start_of a = record { answers = a; stamps = true; relations = standard_relations }
 
 -- over these rules from these answers, before any line
 pub record IsBegun (r : Rules) (a : Answered) (front : List ℕ) (e : Engine) : Type 0 where
   pub by : rules_of e ≡ r
-  pub state : state_of e ≡ at_start r (terms_of a)
+  pub state : state_of e ≡ at_start r (script_start_of a)
   pub text : said e ≡ front
 
 -- the bytes spell a dictionary that has no fault

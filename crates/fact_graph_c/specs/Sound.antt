@@ -11,7 +11,7 @@ use Rattle.fact_graph_c.specs.declared.engine.Engine.{Engine}
 pub record IsSound (e : Engine) : Type 0 where
   pub is_accepted : IsAccepted (names_of e.session.dict.checks) (accepted e.session.dict)
   pub fit : AnswersFit (accepted e.session.dict).tree e.session.timeline.now
-  pub few : length e.watches.pairs ≤ 1000
+  pub few : length e.watches.watched ≤ 1000
 
 -- the dictionary of a desk is accepted, its lists of options are lists of names, and its answers fit
 pub record IsSoundDesk (e : DeskEngine) : Type 0 where

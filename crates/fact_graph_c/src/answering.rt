@@ -71,10 +71,10 @@ fn answer_open<L: Ledger>(
 ) -> Outcome
     requires checks { IsTrue (heard_asks_checks (heard_in line.now)) → SameChecks (rules_of engine.old)
         (named_checks checks.now) }
-    requires relations { Serves (named_relations relations.now) engine.old.watches.pairs line.now }
+    requires relations { Serves (named_relations relations.now) engine.old.watches.watched line.now }
     requires goes_on { engine.old.over ≡ false }
     requires empty { said engine.old ≡ [] }
-    requires roomy { room_for (length engine.old.watches.pairs) ≤ engine.old.text.room }
+    requires roomy { room_for (length engine.old.watches.watched) ≤ engine.old.text.room }
     requires few { engine.old.session.changes < 2 ^ 63 }
     ensures answered { Answers engine.old engine.new line.now result }
     ensures dict { engine.new.session.dict ≡ engine.old.session.dict }
@@ -123,10 +123,10 @@ fn answer_uncounted<L: Ledger>(
     requires some { 0 < blank.parts }
     requires checks { IsTrue (heard_asks_checks (heard_in line.now)) → SameChecks (rules_of engine.old)
         (named_checks checks.now) }
-    requires relations { Serves (named_relations relations.now) engine.old.watches.pairs line.now }
+    requires relations { Serves (named_relations relations.now) engine.old.watches.watched line.now }
     requires goes_on { engine.old.over ≡ false }
     requires empty { said engine.old ≡ [] }
-    requires roomy { room_for (length engine.old.watches.pairs) ≤ engine.old.text.room }
+    requires roomy { room_for (length engine.old.watches.watched) ≤ engine.old.text.room }
     requires few { engine.old.session.changes < 2 ^ 63 }
     ensures answered { Answers engine.old engine.new line.now result }
     ensures dict { engine.new.session.dict ≡ engine.old.session.dict }
@@ -145,7 +145,7 @@ fn answer_by(
 ) -> Outcome
     requires checks { IsTrue (heard_asks_checks (heard_in line.now)) → SameChecks (rules_of engine.old)
         (named_checks checks.now) }
-    requires relations { Serves (named_relations relations.now) engine.old.watches.pairs line.now }
+    requires relations { Serves (named_relations relations.now) engine.old.watches.watched line.now }
     ensures answered { Answers engine.old engine.new line.now result }
     ensures dict { engine.new.session.dict ≡ engine.old.session.dict }
 {

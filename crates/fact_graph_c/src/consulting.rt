@@ -40,7 +40,7 @@ pub fn asks_no_check(line: &[u8]) -> bool
 
 /// Whether the line asks no relation: nothing is watched, and it puts no watch and takes none out.
 pub fn asks_no_relation(watches: &Watches, line: &[u8]) -> bool
-    ensures { IsTrue result → AsksNoRelation watches.now.pairs line.now }
+    ensures { IsTrue result → AsksNoRelation watches.now.watched line.now }
 {
     if watches.len() > 0 {
         return false;

@@ -5,7 +5,7 @@ use Rattle.three_state.specs.declared.res.Res.{Res}
 use Rattle.common_lemmas.proofs.Lists.{one_at}
 use Rattle.evaluation.specs.Results.{Results}
 use Rattle.fact_watch.specs.Says.{slot_says, watch_says}
-use Rattle.fact_watch.specs.Watching.{Pair, Watching, code_at, fires_between, fires_now, noted, pair_says}
+use Rattle.fact_watch.specs.Watching.{Watch, Watching, code_at, fires_between, fires_now, noted, says_of_watch}
 
 said_of : {R : Type 0} (code : R → ℕ) (o : Option R) (r : R) → o ≡ Some r → (old new : Res) (answer : Bool) → IfSome o (λ x. answer ≡ watch_says (code x) old new) → answer ≡ watch_says (unwrap_or (option_map code o) 0) old new
 said_of code None r e old new answer h = absurd (cc)
@@ -18,28 +18,28 @@ said_at code relations place low old new answer h = let there = one_at relations
 
 -- ---- what was noted
 
--- of the pair at n, what was noted is its slot's result then
-pub noted_at : (pairs : List Pair) (before : Results) (n : ℕ) (p : Pair) → slice_get pairs n ≡ Some p → unwrap_or (slice_get (map (λ (q : Pair). before q.1) pairs) n) None ≡ before p.1
+-- of the watch at n, what was noted is its slot's result then
+pub noted_at : (watched : List Watch) (before : Results) (n : ℕ) (p : Watch) → slice_get watched n ≡ Some p → unwrap_or (slice_get (map (λ (q : Watch). before q.1) watched) n) None ≡ before p.1
 noted_at [] before n p e = absurd (cc)
-noted_at (q ∷ qs) before zero p e = let same : q ≡ p = cc in ap (λ (x : Pair). before x.1) same
+noted_at (q ∷ qs) before zero p e = let same : q ≡ p = cc in ap (λ (x : Watch). before x.1) same
 noted_at (q ∷ qs) before (suc n) p e = noted_at qs before n p e
 
-since_by : (codes : ℕ → ℕ) (pairs : List Pair) (before now : Results) (n : ℕ) (o : Option Pair) → slice_get pairs n ≡ o
-    → pair_says codes o (λ s. unwrap_or (slice_get (map (λ (q : Pair). before q.1) pairs) n) None) now ≡ pair_says codes o before now
-since_by codes pairs before now n None e = refl
-since_by codes pairs before now n (Some p) e = ap (λ (r : Option Res). slot_says (codes p.0) r (now p.1)) (noted_at pairs before n p e)
+since_by : (codes : ℕ → ℕ) (watched : List Watch) (before now : Results) (n : ℕ) (o : Option Watch) → slice_get watched n ≡ o
+    → says_of_watch codes o (λ s. unwrap_or (slice_get (map (λ (q : Watch). before q.1) watched) n) None) now ≡ says_of_watch codes o before now
+since_by codes watched before now n None e = refl
+since_by codes watched before now n (Some p) e = ap (λ (r : Option Res). slot_says (codes p.0) r (now p.1)) (noted_at watched before n p e)
 
 -- so it fires as its relation says of the results then and now
-pub fires_since : (codes : ℕ → ℕ) (w : Watching) (before now : Results) (n : ℕ) (answer : Bool) → answer ≡ fires_now codes w now n → w ≡ noted w.pairs before → answer ≡ fires_between codes w.pairs before now n
+pub fires_since : (codes : ℕ → ℕ) (w : Watching) (before now : Results) (n : ℕ) (answer : Bool) → answer ≡ fires_now codes w now n → w ≡ noted w.watched before → answer ≡ fires_between codes w.watched before now n
 fires_since codes w before now n answer h e =
-    h ∙ ap (λ (v : Watching). fires_now codes v now n) e ∙ since_by codes w.pairs before now n (slice_get w.pairs n) refl
+    h ∙ ap (λ (v : Watching). fires_now codes v now n) e ∙ since_by codes w.watched before now n (slice_get w.watched n) refl
 
--- ---- what the relation of the pair at n says
+-- ---- what the relation of the watch at n says
 
-pub fires_some : (codes : ℕ → ℕ) (w : Watching) (now : Results) (n : ℕ) (p : Pair) (old new : Option Res) (answer : Bool) → Some p ≡ slice_get w.pairs n → old ≡ unwrap_or (slice_get w.notes n) None → new ≡ now p.1
+pub fires_some : (codes : ℕ → ℕ) (w : Watching) (now : Results) (n : ℕ) (p : Watch) (old new : Option Res) (answer : Bool) → Some p ≡ slice_get w.watched n → old ≡ unwrap_or (slice_get w.notes n) None → new ≡ now p.1
     → answer ≡ slot_says (codes p.0) old new → answer ≡ fires_now codes w now n
 fires_some codes w now n p old new answer e f g h =
     h
     ∙ ap (λ (r : Option Res). slot_says (codes p.0) r new) f
     ∙ ap (λ (r : Option Res). slot_says (codes p.0) (unwrap_or (slice_get w.notes n) None) r) g
-    ∙ ap (λ (o : Option Pair). pair_says codes o (λ s. unwrap_or (slice_get w.notes n) None) now) e
+    ∙ ap (λ (o : Option Watch). says_of_watch codes o (λ s. unwrap_or (slice_get w.notes n) None) now) e

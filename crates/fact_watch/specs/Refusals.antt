@@ -1,13 +1,13 @@
 -- Why a watch isn't put, or isn't taken out: the first refusal that holds, of a slot that stands.
 use Rattle.std.specs.Prelude.{◌≡◌, ℕ, Bool, not, List, [], ◌∷◌, Option, Some, None, is_none, unwrap_or, if◌then◌else◌}
 use Rattle.fact_values.specs.declared.slot.Slot.{Slot}
-use Rattle.fact_watch.specs.Watching.{Pair, is_full, is_put}
+use Rattle.fact_watch.specs.Watching.{Watch, is_full, is_put}
 use Rattle.fact_watch.specs.declared.commands.WatchRefusal.{WatchRefusal}
 use Rattle.fact_watch.specs.declared.commands.WatchRefusal.TheVariants.{UnknownWatch, WatchThere, WatchesFull, NotWatched, NoMemory}
 
--- the pair of a name's place and a slot; a name that has no place counts as the first
-abbrev pub pair_of : Option ℕ → Slot → Pair
-pair_of place s = (unwrap_or place 0, s)
+-- the watch by a name's place, of a slot; a name that has no place counts as the first
+abbrev pub watch_of : Option ℕ → Slot → Watch
+watch_of place s = (unwrap_or place 0, s)
 
 abbrev pub when : Bool → WatchRefusal → Option WatchRefusal
 when b r = if b then Some r else None
@@ -19,19 +19,19 @@ first_of (None ∷ rest) = first_of rest
 first_of (Some r ∷ rest) = Some r
 
 -- of a name by its place in the table, if it is there
-abbrev pub watch_refusal : Option ℕ → List Pair → Slot → Option WatchRefusal
-watch_refusal place pairs s =
+abbrev pub watch_refusal : Option ℕ → List Watch → Slot → Option WatchRefusal
+watch_refusal place watched s =
     first_of (
     when (is_none place) UnknownWatch
-    ∷ when (is_put pairs (pair_of place s)) WatchThere
-    ∷ when (is_full pairs) WatchesFull
+    ∷ when (is_put watched (watch_of place s)) WatchThere
+    ∷ when (is_full watched) WatchesFull
     ∷ [])
 
-abbrev pub unwatch_refusal : Option ℕ → List Pair → Slot → Option WatchRefusal
-unwatch_refusal place pairs s =
+abbrev pub unwatch_refusal : Option ℕ → List Watch → Slot → Option WatchRefusal
+unwatch_refusal place watched s =
     first_of (
     when (is_none place) UnknownWatch
-    ∷ when (not (is_put pairs (pair_of place s))) NotWatched
+    ∷ when (not (is_put watched (watch_of place s))) NotWatched
     ∷ [])
 
 -- the refusal is the defined one; want of memory says nothing

@@ -1,7 +1,7 @@
 // The commands that put a watch and take it out.
 ghost use Rattle.std.specs.Prelude.{◌≡◌, ◌++◌, ◌∷◌, [], IfErr, OnErr, OnOk, None};
 ghost use Rattle.text_checks.specs.Places.{place_of};
-ghost use Rattle.fact_watch.specs.Refusals.{Refused, pair_of, unwatch_refusal, watch_refusal};
+ghost use Rattle.fact_watch.specs.Refusals.{Refused, unwatch_refusal, watch_of, watch_refusal};
 ghost use Rattle.fact_watch.specs.Watching.{unnoted, without};
 
 use crate::relation::WatchTable;
@@ -14,11 +14,11 @@ use fact_values::Slot;
 pub enum WatchRefusal {
     /// The table has no such name.
     UnknownWatch,
-    /// The pair of name and slot is there.
+    /// The watch by that name, of that slot, is there.
     WatchThere,
-    /// 1,000 pairs are there.
+    /// There are 1,000 watches.
     WatchesFull,
-    /// The pair isn't there.
+    /// The watch isn't there.
     NotWatched,
     /// There was no memory left.
     NoMemory,
@@ -32,11 +32,11 @@ pub fn watch(
     slot: Slot,
 ) -> Result<(), WatchRefusal>
     ensures put { OnOk result (watches.new ≡ unnoted
-        (watches.old.pairs ++ pair_of (place_of table.now.relations.items (λ r. r.name) name.now) slot ∷ [])) }
+        (watches.old.watched ++ watch_of (place_of table.now.relations.items (λ r. r.name) name.now) slot ∷ [])) }
     ensures allowed { OnOk result (watch_refusal (place_of table.now.relations.items (λ r. r.name) name.now)
-        watches.old.pairs slot ≡ None) }
+        watches.old.watched slot ≡ None) }
     ensures refused { IfErr result (λ r. Refused r
-        (watch_refusal (place_of table.now.relations.items (λ r. r.name) name.now) watches.old.pairs slot)) }
+        (watch_refusal (place_of table.now.relations.items (λ r. r.name) name.now) watches.old.watched slot)) }
     ensures unchanged { OnErr result (watches.new ≡ watches.old) }
 {
     let Some(place) = table.find(name.as_str()) else {
@@ -58,11 +58,11 @@ pub fn unwatch(
     slot: Slot,
 ) -> Result<(), WatchRefusal>
     ensures cut { OnOk result (watches.new ≡ unnoted
-        (without (pair_of (place_of table.now.relations.items (λ r. r.name) name.now) slot) watches.old.pairs)) }
+        (without (watch_of (place_of table.now.relations.items (λ r. r.name) name.now) slot) watches.old.watched)) }
     ensures allowed { OnOk result (unwatch_refusal (place_of table.now.relations.items (λ r. r.name) name.now)
-        watches.old.pairs slot ≡ None) }
+        watches.old.watched slot ≡ None) }
     ensures refused { IfErr result (λ r. Refused r
-        (unwatch_refusal (place_of table.now.relations.items (λ r. r.name) name.now) watches.old.pairs slot)) }
+        (unwatch_refusal (place_of table.now.relations.items (λ r. r.name) name.now) watches.old.watched slot)) }
     ensures unchanged { OnErr result (watches.new ≡ watches.old) }
 {
     let Some(place) = table.find(name.as_str()) else {

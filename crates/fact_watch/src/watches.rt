@@ -6,7 +6,7 @@ ghost use Rattle.dictionary.specs.AcceptedParts.{accepted};
 ghost use Rattle.dict_meaning.specs.Plain.{plain};
 ghost use Rattle.evaluation.specs.Results.{Results};
 ghost use Rattle.fact_watch.specs.Says.{slot_says};
-ghost use Rattle.fact_watch.specs.Watching.{code_at, fires_between, fires_now, is_full, is_put, nothing_watched, noted, pair_same, unnoted, without};
+ghost use Rattle.fact_watch.specs.Watching.{code_at, fires_between, fires_now, is_full, is_put, nothing_watched, noted, unnoted, watch_same, without};
 
 use crate::relation::WatchTable;
 use dictionary::FactEngine;
@@ -22,19 +22,19 @@ const MOST_WATCHES: usize = 1000;
 /// Why a watch wasn't put.
 #[derive(Clone, Copy, Debug, PartialEq, Eq)]
 pub enum PutFault {
-    /// The pair is there.
+    /// The watch is there.
     Same,
     /// There are 1,000.
     Full,
     NoMemory,
 }
 
-/// Pairs of a place in a table of relations and a slot, in the order in which they were put, and the results that their
-/// slots had when they were noted.
+/// Watches, each by the place of a relation in its table, and of a slot, in the order in which they were put; and the
+/// results that their slots had when they were noted.
 #[derive(Drop)]
 pub struct Watches {
     alloc: Global,
-    pairs: Vec<(u32, Slot)>,
+    watched: Vec<(u32, Slot)>,
     notes: Vec<Option<Res>>,
 }
 
@@ -46,23 +46,23 @@ impl Model for Watches {
 
     ghost coded = { coded_watching };
 
-    ghost view = { λ w. record { pairs = w.pairs.items; notes = w.notes.items } };
+    ghost view = { λ w. record { watched = w.watched.items; notes = w.notes.items } };
 
-    ghost invariant = { λ w. length w.pairs.items ≤ 1000 };
+    ghost invariant = { λ w. length w.watched.items ≤ 1000 };
 }
 
-fn is_pair(pair: &(u32, Slot), place: u32, slot: Slot) -> bool
-    ensures { result ≡ pair_same (place, slot) pair.now }
+fn is_watch(watch: &(u32, Slot), place: u32, slot: Slot) -> bool
+    ensures { result ≡ watch_same (place, slot) watch.now }
 {
-    place == pair.0 && slot.fact == pair.1.fact && slot.member == pair.1.member
+    place == watch.0 && slot.fact == watch.1.fact && slot.member == watch.1.member
 }
 
-// Leaves the pairs that aren't this one.
-fn take_out(pairs: &mut Vec<(u32, Slot)>, place: u32, slot: Slot)
-    ensures left { pairs.new.items ≡ without (place, slot) pairs.old.items }
-    ensures fewer { length pairs.new.items ≤ length pairs.old.items }
+// Leaves the watches that aren't this one.
+fn take_out(watched: &mut Vec<(u32, Slot)>, place: u32, slot: Slot)
+    ensures left { watched.new.items ≡ without (place, slot) watched.old.items }
+    ensures fewer { length watched.new.items ≤ length watched.old.items }
 {
-    pairs.retain(|pair| !is_pair(pair, place, slot));
+    watched.retain(|watch| !is_watch(watch, place, slot));
 }
 
 // The slot's result, or none where it doesn't stand.
@@ -116,47 +116,49 @@ impl Watches {
     {
         Watches {
             alloc,
-            pairs: Vec::new(alloc),
+            watched: Vec::new(alloc),
             notes: Vec::new(alloc),
         }
     }
 
     /// How many watches there are: 1,000 at most.
     pub fn len(&self) -> u32
-        ensures count { result ≡ length self.now.pairs }
+        ensures count { result ≡ length self.now.watched }
         ensures few { result ≤ 1000 }
     {
-        self.pairs.len() as u32
+        self.watched.len() as u32
     }
 
     /// The place and the slot of the watch at n, from 0, or `None` where there is none.
     pub fn at(&self, n: u32) -> Option<(u32, Slot)>
-        ensures { result ≡ slice_get self.now.pairs n }
+        ensures { result ≡ slice_get self.now.watched n }
     {
-        self.pairs.get(n as usize).copied()
+        self.watched.get(n as usize).copied()
     }
 
     fn has(&self, place: u32, slot: Slot) -> bool
-        ensures { result ≡ is_put self.now.pairs (place, slot) }
+        ensures { result ≡ is_put self.now.watched (place, slot) }
     {
-        self.pairs.iter().any(|pair| is_pair(pair, place, slot))
+        self.watched
+            .iter()
+            .any(|watch| is_watch(watch, place, slot))
     }
 
     /// Puts a watch behind the others. Nothing is noted then.
     pub fn put(&mut self, place: u32, slot: Slot) -> Result<(), PutFault>
-        ensures put { OnOk result (self.new ≡ unnoted (self.old.pairs ++ (place, slot) ∷ [])) }
-        ensures same { IsErrOf result PutFault.Same ↔ IsTrue (is_put self.old.pairs (place, slot)) }
-        ensures full { IsErrOf result PutFault.Full ↔ ((is_put self.old.pairs (place, slot) ≡ false)
-            × IsTrue (is_full self.old.pairs)) }
+        ensures put { OnOk result (self.new ≡ unnoted (self.old.watched ++ (place, slot) ∷ [])) }
+        ensures same { IsErrOf result PutFault.Same ↔ IsTrue (is_put self.old.watched (place, slot)) }
+        ensures full { IsErrOf result PutFault.Full ↔ ((is_put self.old.watched (place, slot) ≡ false)
+            × IsTrue (is_full self.old.watched)) }
         ensures unchanged { OnErr result (self.new ≡ self.old) }
     {
         if self.has(place, slot) {
             return Err(PutFault::Same);
         }
-        if self.pairs.len() >= MOST_WATCHES {
+        if self.watched.len() >= MOST_WATCHES {
             return Err(PutFault::Full);
         }
-        match self.pairs.push((place, slot)) {
+        match self.watched.push((place, slot)) {
             Ok(()) => {
                 self.notes.clear();
                 Ok(())
@@ -167,26 +169,26 @@ impl Watches {
 
     /// Takes a watch out, and tells whether it was there. Nothing is noted then.
     pub fn cut(&mut self, place: u32, slot: Slot) -> bool
-        ensures there { result ≡ is_put self.old.pairs (place, slot) }
-        ensures cut { OnTrue result (self.new ≡ unnoted (without (place, slot) self.old.pairs)) }
+        ensures there { result ≡ is_put self.old.watched (place, slot) }
+        ensures cut { OnTrue result (self.new ≡ unnoted (without (place, slot) self.old.watched)) }
         ensures unchanged { OnFalse result (self.new ≡ self.old) }
     {
         if !self.has(place, slot) {
             return false;
         }
-        take_out(&mut self.pairs, place, slot);
+        take_out(&mut self.watched, place, slot);
         self.notes.clear();
         true
     }
 
     /// Notes the result of each watched slot, or that it doesn't stand. For want of memory all notes are as before.
     pub fn note<E: FactEngine>(&mut self, session: &Session<E>) -> Result<(), NoMemory>
-        ensures noted { OnOk result (self.new ≡ noted self.old.pairs
+        ensures noted { OnOk result (self.new ≡ noted self.old.watched
             (plain (accepted session.now.dict) session.now.timeline.now)) }
         ensures unchanged { OnErr result (self.new ≡ self.old) }
     {
         let mut notes = Vec::new(self.alloc);
-        for (_, slot) in &self.pairs {
+        for (_, slot) in &self.watched {
             match push_note(self.alloc, session, *slot, &mut notes) {
                 Ok(()) => (),
                 Err(NoMemory) => {
@@ -216,24 +218,24 @@ impl Watches {
         session: &Session<E>,
         n: u32,
     ) -> bool
-        requires { IfSome (slice_get self.now.pairs n) (λ p. p.0 < length table.now.relations.items) }
+        requires { IfSome (slice_get self.now.watched n) (λ p. p.0 < length table.now.relations.items) }
         ensures { result ≡ fires_now (code_at (λ r. r.code) table.now.relations.items) self.now
             (plain (accepted session.now.dict) session.now.timeline.now) n }
     {
         match self.at(n) {
             None => false,
-            Some(pair) => says(table, pair.0, self.note_at(n), session.result(pair.1)),
+            Some(watch) => says(table, watch.0, self.note_at(n), session.result(watch.1)),
         }
     }
 
     /// Whether the watch at n fires: its slot stood when it was noted, and stands now, and its relation says yes of the
     /// result that was noted and the one now. It takes no memory.
     pub fn fires<E: FactEngine>(&self, table: &WatchTable, session: &Session<E>, n: u32) -> bool
-        requires { IfSome (slice_get self.now.pairs n) (λ p. p.0 < length table.now.relations.items) }
+        requires { IfSome (slice_get self.now.watched n) (λ p. p.0 < length table.now.relations.items) }
         ensures now { result ≡ fires_now (code_at (λ r. r.code) table.now.relations.items) self.now
             (plain (accepted session.now.dict) session.now.timeline.now) n }
-        ensures since { (before : Results) → self.now ≡ noted self.now.pairs before
-            → result ≡ fires_between (code_at (λ r. r.code) table.now.relations.items) self.now.pairs before
+        ensures since { (before : Results) → self.now ≡ noted self.now.watched before
+            → result ≡ fires_between (code_at (λ r. r.code) table.now.relations.items) self.now.watched before
             (plain (accepted session.now.dict) session.now.timeline.now) n }
     {
         self.fires_as_noted(table, session, n)

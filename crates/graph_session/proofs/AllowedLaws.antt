@@ -27,7 +27,7 @@ use Rattle.dict_meaning.specs.Fits.{AnswersFit, IsOfFact, is_list, takes}
 use Rattle.dict_meaning.specs.Slots.{is_member, stands}
 use Rattle.dict_meaning.proofs.SlotLaws.{slot_stands}
 use Rattle.graph_session.specs.Changes.{CanBeMade, change_of, change_refusals}
-use Rattle.graph_session.specs.Kinds.{is_full, value_spelled}
+use Rattle.graph_session.specs.Judging.{is_full, value_spelled}
 use Rattle.graph_session.specs.Naming.{fact_of, is_unknown, lacks_member, named_fact, slot_of}
 use Rattle.graph_session.specs.Refusals.{add_refusals, first_of, open_refusals, remove_refusals, slot_found, slot_refusals, when}
 use Rattle.graph_session.specs.Rules.{Rules, tree_of}

@@ -33,7 +33,7 @@ use Rattle.dict_meaning.proofs.NumberLaws.{fact_there}
 use Rattle.dict_meaning.specs.Accepted.{Accepted, IsAccepted}
 use Rattle.dictionary.specs.AcceptedParts.{Named, names_of}
 use Rattle.dictionary.specs.Checks.{fact_has_check, has_check, is_check}
-use Rattle.graph_session.specs.Kinds.{HasCheck, IsLimitBy, IsMeasured, fails, limits_of, value_spelled}
+use Rattle.graph_session.specs.Judging.{HasCheck, IsLimitBy, IsMeasured, fails, limits_of, value_spelled}
 use Rattle.graph_session.specs.Refusals.{SameChecks}
 use Rattle.graph_session.specs.Rules.{Rules}
 

@@ -14,7 +14,7 @@ use Rattle.session_undo.specs.declared.direction.Direction.{Direction}
 use Rattle.session_undo.specs.declared.direction.Direction.TheVariants.{Back, Forth}
 use Rattle.session_undo.specs.declared.history.History.{History}
 use Rattle.session_undo.specs.History.{first, place}
-use Rattle.session_undo.specs.UndoState.{FitInTurn, Kept as IsKeptState, UndoState, changed, forgotten, moved, moved_back, turned}
+use Rattle.session_undo.specs.UndoState.{FitInTurn, IsConsistent, UndoState, changed, forgotten, moved, moved_back, turned}
 use Rattle.session_undo.specs.Timeline.{Timeline, back_to, timeline, timeline_back, timeline_change, timeline_forgotten, timeline_forth, timeline_turned, trace}
 use Rattle.session_undo.proofs.TimelineLaws.{forgotten_timeline, kept_changed, kept_forgotten, kept_moved_back, timeline_changed, timeline_moved_back, timeline_moved_forth}
 use Rattle.dictionary.specs.AcceptedParts.{AcceptedParts, accepted, names_of}
@@ -94,7 +94,7 @@ sound_stepped k Back p s = sound_back k p s
 
 -- ---- steps back and forth
 
-timeline_of_stepped : (direction : Direction) (p : UndoState) → IsKeptState p → timeline (stepped direction p) ≡ timeline_stepped direction (timeline p)
+timeline_of_stepped : (direction : Direction) (p : UndoState) → IsConsistent p → timeline (stepped direction p) ≡ timeline_stepped direction (timeline p)
 timeline_of_stepped Forth p k = timeline_moved_forth p k
 timeline_of_stepped Back p k = timeline_moved_back p k
 
@@ -106,7 +106,7 @@ undoes_step (c ∷ cs) a ds d well fit some e =
     let same : d ≡ inverse c a = cc in
     (subst (λ (x : Change). Fits x (applied c a)) (sym same) (inverse_fits c a well fit.0), ap (λ (x : Change). applied x (applied c a)) same ∙ fits_inverse_undoes c a well fit.0)
 
-undoes_stepped : (direction : Direction) (p : UndoState) (d : Change) → IsKeptState p → is_end direction (timeline p) ≡ false → Some d ≡ first (changes_along (reversed direction) (stepped direction p))
+undoes_stepped : (direction : Direction) (p : UndoState) (d : Change) → IsConsistent p → is_end direction (timeline p) ≡ false → Some d ≡ first (changes_along (reversed direction) (stepped direction p))
     → Fits d (stepped direction p).now × (applied d (stepped direction p).now ≡ p.now)
 undoes_stepped Forth p d k some e = undoes_step p.ahead p.now p.back d k.well k.ahead some e
 undoes_stepped Back p d k some e = undoes_step p.back p.now p.ahead d k.well k.back some e

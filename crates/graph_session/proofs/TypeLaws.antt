@@ -29,7 +29,7 @@ use Rattle.dict_meaning.proofs.ConstantTypes.{place_within}
 use Rattle.dict_source.specs.Forms.{IsWellFormed}
 use Rattle.dict_meaning.proofs.HomeLaws.{all_facts}
 use Rattle.dict_meaning.proofs.MemberlessTypes.{IsMemberless, answered, overridden}
-use Rattle.graph_session.specs.Kinds.{is_given}
+use Rattle.graph_session.specs.Judging.{is_given}
 
 -- ---- what is kept of each fact
 

@@ -7,7 +7,7 @@ use Rattle.answers.specs.Answered.{Answered}
 use Rattle.answers.specs.Change.{Change, Fits, adds, opens, removes, sets}
 use Rattle.answers.specs.declared.edit.Side.TheVariants as side
 use Rattle.dict_meaning.specs.Allowed.{IsAllowed}
-use Rattle.graph_session.specs.Kinds.{value_spelled}
+use Rattle.graph_session.specs.Judging.{value_spelled}
 use Rattle.graph_session.specs.Naming.{fact_of, slot_of}
 use Rattle.graph_session.specs.Refusals.{add_refusals, clear_refusals, open_refusals, override_refusals, release_refusals, remove_refusals, set_refusals}
 use Rattle.graph_session.specs.Rules.{Rules}

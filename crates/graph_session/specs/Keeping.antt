@@ -1,7 +1,7 @@
 -- What every session keeps.
 use Rattle.std.specs.List.{All}
 use Rattle.dict_source.specs.Dictionary.{Dictionary as Tree}
-use Rattle.session_undo.specs.UndoState.{UndoState, Kept as IsKeptState}
+use Rattle.session_undo.specs.UndoState.{UndoState, IsConsistent}
 use Rattle.session_undo.specs.Timeline.{Timeline, timeline}
 use Rattle.dict_meaning.specs.Accepted.{IsAccepted}
 use Rattle.dictionary.specs.AcceptedParts.{AcceptedParts, accepted, names_of}
@@ -16,5 +16,5 @@ pub record AllFit (d : Tree) (t : Timeline) : Type 0 where
 -- the dictionary has no fault, and the edits that lead back and forth fit one after another, and lead through answers that fit
 pub record IsSound (k : AcceptedParts) (p : UndoState) : Type 0 where
   pub is_accepted : IsAccepted (names_of k.checks) (accepted k)
-  pub kept : IsKeptState p
+  pub kept : IsConsistent p
   pub fit : AllFit (accepted k).tree (timeline p)

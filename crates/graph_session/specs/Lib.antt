@@ -1,7 +1,7 @@
 pub mod Changes
 pub mod Counts
 pub mod Keeping
-pub mod Kinds
+pub mod Judging
 pub mod Moves
 pub mod Naming
 pub mod Refusals

@@ -13,7 +13,7 @@ use Rattle.dictionary.specs.Checks.{has_check}
 use Rattle.dict_meaning.specs.Fits.{is_answered_by, is_list, is_overridden_by}
 use Rattle.dict_meaning.specs.Slots.{is_member}
 use Rattle.graph_session.specs.Counts.{Counts}
-use Rattle.graph_session.specs.Kinds.{first_broken, first_failed, is_full, limits_of, value_spelled}
+use Rattle.graph_session.specs.Judging.{first_broken, first_failed, is_full, limits_of, value_spelled}
 use Rattle.graph_session.specs.Naming.{fact_of, is_unknown, lacks_member, slot_of}
 use Rattle.graph_session.specs.Rules.{Rules, tree_of}
 use Rattle.graph_session.specs.declared.reply.Refusal.{Refusal}

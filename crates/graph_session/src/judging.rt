@@ -6,7 +6,7 @@ ghost use Rattle.value_text.specs.Values.{Gives};
 ghost use Rattle.dict_source.specs.Finding.{IsNumber};
 ghost use Rattle.node_types.specs.StatedTypes.{type_at};
 ghost use Rattle.dict_meaning.specs.Fits.{is_answered_by};
-ghost use Rattle.graph_session.specs.Kinds.{IsMeasured, first_failed as first_failing, is_given, limits_of as kept_limits, value_spelled};
+ghost use Rattle.graph_session.specs.Judging.{IsMeasured, first_failed as first_failing, is_given, limits_of as kept_limits, value_spelled};
 ghost use Rattle.graph_session.specs.Refusals.{Refused, SameChecks, first_of, limit_refusals, value_refusals};
 ghost use Rattle.graph_session.specs.Rules.{rules, tree_of};
 

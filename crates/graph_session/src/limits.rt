@@ -3,7 +3,7 @@ ghost use Rattle.std.specs.Prelude.{◌≡◌, ◌<◌, ◌≤◌, ◌^◌, leng
 ghost use Rattle.std.specs.List.{All};
 ghost use Rattle.text_checks.specs.Tables.{named_checks};
 ghost use Rattle.dict_source.specs.Dictionary.{number_from};
-ghost use Rattle.graph_session.specs.Kinds.{HasCheck, IsMeasured, breaks as breaks_limit, fails as fails_check, text_of as bytes_of};
+ghost use Rattle.graph_session.specs.Judging.{HasCheck, IsMeasured, breaks as breaks_limit, fails as fails_check, text_of as bytes_of};
 
 use dict_types::Limit;
 use fact_values::{Value, compare};

@@ -3,7 +3,7 @@ ghost use Rattle.std.specs.Prelude.{◌≡◌, [], false, IfErr, OnErr, OnOk};
 ghost use Rattle.answers.specs.Meaning.{answered};
 ghost use Rattle.session_undo.specs.Directions.{reversed};
 ghost use Rattle.session_undo.specs.History.{place};
-ghost use Rattle.session_undo.specs.UndoState.{Kept as IsKeptState};
+ghost use Rattle.session_undo.specs.UndoState.{IsConsistent};
 ghost use Rattle.session_undo.specs.Timeline.{timeline};
 ghost use Rattle.session_undo.specs.declared.direction.Direction.TheVariants.{Back, Forth};
 ghost use Rattle.graph_session.specs.Moves.{CanStep, changes_along, end_refusal, is_end, stepped};
@@ -14,7 +14,7 @@ use answers::Answers;
 use session_undo::{Direction, History, UndoRefusal};
 
 fn step_back(history: &mut History, answers: &mut Answers) -> Result<(), Refusal>
-    requires { IsKeptState (place history.old answers.old) }
+    requires { IsConsistent (place history.old answers.old) }
     ensures moved { OnOk result (place history.new answers.new ≡ stepped Back (place history.old answers.old)) }
     ensures some { OnOk result (is_end Back (timeline (place history.old answers.old)) ≡ false) }
     ensures can_return { OnOk result (CanStep Forth history.new answers.new) }
@@ -31,7 +31,7 @@ fn step_back(history: &mut History, answers: &mut Answers) -> Result<(), Refusal
 }
 
 fn step_forth(history: &mut History, answers: &mut Answers) -> Result<(), Refusal>
-    requires { IsKeptState (place history.old answers.old) }
+    requires { IsConsistent (place history.old answers.old) }
     ensures moved { OnOk result (place history.new answers.new ≡ stepped Forth (place history.old answers.old)) }
     ensures some { OnOk result (is_end Forth (timeline (place history.old answers.old)) ≡ false) }
     ensures can_return { OnOk result (CanStep Back history.new answers.new) }
@@ -53,7 +53,7 @@ pub fn step_along(
     answers: &mut Answers,
     direction: Direction,
 ) -> Result<(), Refusal>
-    requires { IsKeptState (place history.old answers.old) }
+    requires { IsConsistent (place history.old answers.old) }
     ensures moved { OnOk result (place history.new answers.new ≡ stepped direction (place history.old answers.old)) }
     ensures some { OnOk result (is_end direction (timeline (place history.old answers.old)) ≡ false) }
     ensures can_return { OnOk result (CanStep (reversed direction) history.new answers.new) }
@@ -69,7 +69,7 @@ pub fn step_along(
 
 /// Takes back a step that was just made in this direction.
 pub fn step_against(history: &mut History, answers: &mut Answers, direction: Direction)
-    requires kept { IsKeptState (place history.old answers.old) }
+    requires kept { IsConsistent (place history.old answers.old) }
     requires can { CanStep (reversed direction) history.old answers.old }
     requires some { changes_along (reversed direction) (place history.old answers.old) ≡ [] → ⊥ }
     ensures { place history.new answers.new ≡ stepped (reversed direction) (place history.old answers.old) }

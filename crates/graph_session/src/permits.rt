@@ -2,7 +2,7 @@
 ghost use Rattle.std.specs.Prelude.{◌≡◌, None, Some, IfErr, IfOk};
 ghost use Rattle.answers.specs.Meaning.{answered};
 ghost use Rattle.text_checks.specs.Tables.{named_checks};
-ghost use Rattle.graph_session.specs.Kinds.{is_full as full, value_spelled};
+ghost use Rattle.graph_session.specs.Judging.{is_full as full, value_spelled};
 ghost use Rattle.graph_session.specs.Naming.{fact_of, slot_of};
 ghost use Rattle.graph_session.specs.Refusals.{Refused, SameChecks, add_refusals, clear_refusals, decided, first_of, open_refusals, override_refusals, release_refusals, remove_refusals, set_refusals};
 ghost use Rattle.graph_session.specs.Rules.{rules, tree_of};

@@ -9,7 +9,7 @@ use Rattle.dictionary.specs.AcceptedParts.{Named}
 use Rattle.graph_session.specs.Rules.{Rules, tree_of}
 use Rattle.saved_text.specs.SavedText.{saved_lines}
 use Rattle.interview.specs.Beginnings.{saved_limit}
-use Rattle.interview.specs.Calls.{ByStillFetch, Calls, CallsForDictionary, CallsForNone, CallsForRun, CallsForSave, CallsForSaved, CallsInVain, CallsOnce, PutsSaved, PutsSummary, SilentTalk, TalksFrom, beside}
+use Rattle.interview.specs.Calls.{ByStillFetch, Calls, CallsForDictionary, CallsForNone, CallsForRun, CallsForSave, CallsForSaved, CallsInVain, CallsOnce, PutsSaved, PutsSummary, SilentExchange, ExchangeFrom, beside}
 use Rattle.interview.specs.declared.fetching.Fetched.{Fetched}
 use Rattle.interview.specs.declared.resuming.Ready.{Ready}
 use Rattle.interview.specs.declared.resuming.Resumed.{Resumed}
@@ -24,7 +24,7 @@ use Rattle.interview.specs.Meanings.{Meaning, meaning_of, silently}
 use Rattle.interview.specs.Save.{ScriptSaves}
 use Rattle.interview.specs.ScriptEnds.{EndsBefore, ScriptDid, ScriptEnds, did_behind}
 use Rattle.interview.specs.StepEnds.{Gives, ResumedAs, StartEnds}
-use Rattle.interview.specs.Talk.{MayBegin, Talk, bytes_of}
+use Rattle.interview.specs.Exchange.{MayBegin, Exchange, bytes_of}
 use Rattle.interview.specs.Words.{Beginning, HasNoForm, IsCheck, IsGen, IsRun, IsSave, Origin, by_carry, by_load, file, program, unanswered}
 use Rattle.interview.proofs.LoadLaws.{same_gen}
 use Rattle.interview.proofs.WordLaws.{gen_is_no_check, gen_is_no_run, gen_is_no_save, not_both, same_beginning, same_check, same_mode, same_origin, same_save, save_is_no_check, save_is_no_run}
@@ -95,48 +95,48 @@ module _ {S K : Type 0} (pulled : ByPull S K) (output : K → Output) (out out_n
   none_failed (inr (wrong, call)) = absurd cc
 
   -- one that was done had no pull that failed, whatever came behind it
-  abbrev pub talk_done : (m : Meaning) → Talk pulled output m out script script_now Done → (status : Status) → Talk pulled output m out script script_now status
-  talk_done m talk status = record {
-    pieces = talk.pieces;
-    between = talk.between;
-    came = talk.came;
-    last = none_failed talk.last;
+  abbrev pub exchange_done : (m : Meaning) → Exchange pulled output m out script script_now Done → (status : Status) → Exchange pulled output m out script script_now status
+  exchange_done m exchange status = record {
+    pieces = exchange.pieces;
+    between = exchange.between;
+    came = exchange.came;
+    last = none_failed exchange.last;
   }
 
   -- behind it the answers were saved that it left
   module _ (r k : Rules) (m : Meaning) (answers : Answered) (ran : K) (same_sink : ran ≡ out) (same_rules : k ≡ r)
-      (talk : Talk pulled output (silently m) out script script_now Done) (left : m.answers (answered_lines (bytes_of talk.pieces)) ≡ answers) where
+      (exchange : Exchange pulled output (silently m) out script script_now Done) (left : m.answers (answered_lines (bytes_of exchange.pieces)) ≡ answers) where
     abbrev lines_now : List (List ℕ)
     lines_now = saved_lines (tree_of k) answers
 
     abbrev lines_due : List (List ℕ)
-    lines_due = saved_lines (tree_of r) (m.answers (answered_lines (bytes_of talk.pieces)))
+    lines_due = saved_lines (tree_of r) (m.answers (answered_lines (bytes_of exchange.pieces)))
 
     same_lines : lines_now ≡ lines_due
     same_lines = ap (λ (q : Rules). saved_lines (tree_of q) answers) same_rules ∙ ap (saved_lines (tree_of r)) (sym left)
 
-    puts_by : (status : Status) → PutLinesAtEnd (output out) (output out_now) lines_due Done status → PutsSaved output r m (bytes_of talk.pieces) status out out_now
-    puts_by status (inl (is, wrote)) = subst (λ (s : Status). PutsSaved output r m (bytes_of talk.pieces) s out out_now) (sym is) wrote
-    puts_by status (inr (is, part)) = subst (λ (s : Status). PutsSaved output r m (bytes_of talk.pieces) s out out_now) (sym is) part
+    puts_by : (status : Status) → PutLinesAtEnd (output out) (output out_now) lines_due Done status → PutsSaved output r m (bytes_of exchange.pieces) status out out_now
+    puts_by status (inl (is, wrote)) = subst (λ (s : Status). PutsSaved output r m (bytes_of exchange.pieces) s out out_now) (sym is) wrote
+    puts_by status (inr (is, part)) = subst (λ (s : Status). PutsSaved output r m (bytes_of exchange.pieces) s out out_now) (sym is) part
 
-    pub saved_behind : (status : Status) → PutLinesAtEnd (output ran) (output out_now) lines_now Done status → SilentTalk pulled output r m out out_now script script_now status
+    pub saved_behind : (status : Status) → PutLinesAtEnd (output ran) (output out_now) lines_now Done status → SilentExchange pulled output r m out out_now script script_now status
     saved_behind status ended = record {
-      talk = talk_done (silently m) talk status;
+      exchange = exchange_done (silently m) exchange status;
       puts = puts_by status (subst (λ (ls : List (List ℕ)). PutLinesAtEnd (output out) (output out_now) ls Done status) same_lines (subst (λ (o : K). PutLinesAtEnd (output o) (output out_now) lines_now Done status) same_sink ended));
     }
 
   module _ (contents : List ℕ → Contents) (beginning : Beginning) (r : Rules) (mode : Mode) (relations : List Named) (status : Status) where
     -- behind the answers that a run begins with
-    pub talks_from : (ready : Ready) → ResumedAs contents beginning r (resumed.Begins ready)
+    pub exchange_from : (ready : Ready) → ResumedAs contents beginning r (resumed.Begins ready)
         → ((front : List (List ℕ)) → Gives ready.dropped front → MayBegin pulled output (meaning_of r mode relations (answered ready.answers)) front out out_now script script_now status)
-        → TalksFrom pulled output contents beginning r mode relations status script script_now out out_now
-    talks_from ready (basis, brought, (s, is, begun)) talks =
-        inr (basis, brought, (s, is, subst (λ (a : Answered). MayBegin pulled output (meaning_of r mode relations a) s.front out out_now script script_now status) begun.answers (talks s.front begun.front)))
+        → ExchangeFrom pulled output contents beginning r mode relations status script script_now out out_now
+    exchange_from ready (basis, brought, (s, is, begun)) exchanges =
+        inr (basis, brought, (s, is, subst (λ (a : Answered). MayBegin pulled output (meaning_of r mode relations a) s.front out out_now script script_now status) begun.answers (exchanges s.front begun.front)))
 
     -- by what the shelf told before
-    pub talks_same : (before : List ℕ → Contents) → contents ≡ before → TalksFrom pulled output contents beginning r mode relations status script script_now out out_now
-        → TalksFrom pulled output before beginning r mode relations status script script_now out out_now
-    talks_same before same talks = subst (λ (t : List ℕ → Contents). TalksFrom pulled output t beginning r mode relations status script script_now out out_now) same talks
+    pub exchange_same : (before : List ℕ → Contents) → contents ≡ before → ExchangeFrom pulled output contents beginning r mode relations status script script_now out out_now
+        → ExchangeFrom pulled output before beginning r mode relations status script script_now out out_now
+    exchange_same before same exchanges = subst (λ (t : List ℕ → Contents). ExchangeFrom pulled output t beginning r mode relations status script script_now out out_now) same exchanges
 
 -- ---- the form that the words have
 

@@ -17,14 +17,14 @@ use Rattle.session_lines.specs.Writing.{WroteLines, WroteSome, pieces_of}
 use Rattle.session_lines.proofs.WritingLaws.{lines_on, some_before, some_on}
 use Rattle.interview.specs.Beginnings.{saved_limit}
 use Rattle.interview.specs.CallOrder.{AreDue, AreOfRun, AreOfSave, AreOutput, CameByPulls, EachFollowsReplies, EachLineIsOnePiece, Fetch, FetchedInOrder, FollowsReplies, IsOneLine, NameNoFile, NameThenSaved, NoCallBehindAFailedOne, NoneBehindFailed, NothingIsFetched, Pull, PulledInOrder, PullsFollowReplies, PutEach, came_of}
-use Rattle.interview.specs.Calls.{Answer, ByStillFetch, Calls, CallsForAccepted, CallsForDictionary, CallsForRun, CallsForSave, CallsForSaved, CallsInVain, IsDictionary, MaySave, PutsSaved, PutsSummary, TalksFrom, beside}
+use Rattle.interview.specs.Calls.{Answer, ByStillFetch, Calls, CallsForAccepted, CallsForDictionary, CallsForRun, CallsForSave, CallsForSaved, CallsInVain, IsDictionary, MaySave, PutsSaved, PutsSummary, ExchangeFrom, beside}
 use Rattle.interview.specs.Given.{Given}
 use Rattle.interview.specs.Interview.{answered_lines}
 use Rattle.interview.specs.LastLines.{PutBy, PutsOneLine}
 use Rattle.interview.specs.Load.{IsOfLoad, gen_lines}
 use Rattle.interview.specs.Meanings.{Meaning, meaning_of, silently}
 use Rattle.interview.specs.Save.{save_meaning}
-use Rattle.interview.specs.Talk.{Came, PulledBehind, Talk, Told, asked_behind, bytes_of}
+use Rattle.interview.specs.Exchange.{Came, PulledBehind, Exchange, Told, asked_behind, bytes_of}
 use Rattle.interview.specs.Words.{Beginning, IsCheck, IsForm, IsFrom, IsRun, IsSave, Origin, beginning_of, by_carry, by_load, file, origin_of, program, unanswered}
 use Rattle.interview.specs.declared.status.Status.{Status}
 use Rattle.interview.specs.declared.status.Status.TheVariants.{Done, DictionaryRefused, FetchFault as FailedFetch, NoMemory, ReadFault, SavedRefused, ScriptTooLong, Usage, WriteFault}
@@ -182,7 +182,7 @@ module _ {K : Type 0} (output : K → Output) (out out_now : K) where
   saved_puts given r status bytes same = inl (ap output same)
 
   module _ {S : Type 0} (pulled : ByPull S K) (given : Given) (script script_now : S) where
-    run_puts : (r : Rules) (mode : Mode) (beginning : Beginning) (status : Status) → TalksFrom pulled output given.contents beginning r mode given.relations status script script_now out out_now
+    run_puts : (r : Rules) (mode : Mode) (beginning : Beginning) (status : Status) → ExchangeFrom pulled output given.contents beginning r mode given.relations status script script_now out out_now
         → MayPut (λ lines. IsOneLine lines ⊎ AreOfRun given mode beginning lines)
     run_puts r mode beginning status (inl (still, put)) = one_or (AreOfRun given mode beginning) (one_line status put)
     run_puts r mode beginning status (inr (basis, brought, (s, is, inl (still, inl same)))) = inl (ap output same)
@@ -191,12 +191,12 @@ module _ {K : Type 0} (output : K → Output) (out out_now : K) where
         inr (s.front ++ m.replies [], inr (r, basis, s, [], brought, is, refl), inr (some_before (output out) (output out_now) s.front (m.replies []) part).puts)
     run_puts r mode beginning status (inr (basis, brought, (s, is, inr (begun, wrote, whole)))) =
         let m = meaning_of r mode given.relations s.answers in
-        let told = told_lines s.front begun wrote m (bytes_of whole.talk.pieces) status whole.told in
+        let told = told_lines s.front begun wrote m (bytes_of whole.exchange.pieces) status whole.told in
         inr (s.front ++ m.replies told.0, inr (r, basis, s, told.0, brought, is, refl), told.1)
 
     save_puts : (r : Rules) (status : Status) → MaySave pulled output r (save_meaning r given.relations) out out_now script script_now status → MayPut (λ lines. IsOneLine lines ⊎ AreOfSave given lines)
     save_puts r status (inl (still, same)) = inl (ap output same)
-    save_puts r status (inr silent) = or_these (AreOfSave given) (saved_puts given r status (bytes_of silent.talk.pieces) silent.puts)
+    save_puts r status (inr silent) = or_these (AreOfSave given) (saved_puts given r status (bytes_of silent.exchange.pieces) silent.puts)
 
   gen_puts : (given : Given) (n : ℕ) (status : Status) → PutsSummary output given.relations n status out out_now → MayPut (λ lines. (r : Rules) × IsOfLoad n r × (lines ≡ gen_lines r given.relations n))
   gen_puts given n Done (r, is, wrote) = inr (gen_lines r given.relations n, (r, is, refl), put_all (output out) (output out_now) (gen_lines r given.relations n) wrote.puts)
@@ -254,8 +254,8 @@ module _ {S K : Type 0} (pulled : ByPull S K) (output : K → Output) (m : Meani
     }
 
 pub pulls_follow_replies : {S K : Type 0} (pulled : ByPull S K) (output : K → Output) → PullsFollowReplies pulled output
-pulls_follow_replies pulled output m out script script_now status talk =
-    with_last pulled output m out script script_now status talk.pieces talk.between (pulled_pieces pulled output m out script talk.pieces talk.between talk.came) talk.last
+pulls_follow_replies pulled output m out script script_now status exchange =
+    with_last pulled output m out script script_now status exchange.pieces exchange.between (pulled_pieces pulled output m out script exchange.pieces exchange.between exchange.came) exchange.last
 
 -- ---- a device that failed
 
@@ -376,20 +376,20 @@ module _ {S K : Type 0} (pulled : ByPull S K) (output : K → Output) (script sc
       none_last [] earlier call is failed = refl
       none_last (last ∷ later) earlier call is failed = absurd cc
 
-  talk_pulls : (m : Meaning) (out : K) (status : Status) → Talk pulled output m out script script_now status → PulledAtMost pulled script script_now
-  talk_pulls m out status talk =
-      let all = pulls_follow_replies pulled output m out script script_now status talk in
+  exchange_pulls : (m : Meaning) (out : K) (status : Status) → Exchange pulled output m out script script_now status → PulledAtMost pulled script script_now
+  exchange_pulls m out status exchange =
+      let all = pulls_follow_replies pulled output m out script script_now status exchange in
       record { pulls = all.pulls; came = all.came; last = last_pulled output m out all.pulls all.each }
 
   module _ (out out_now : K) (given : Given) (r : Rules) (status : Status) where
-    run_pulls : (mode : Mode) (beginning : Beginning) → TalksFrom pulled output given.contents beginning r mode given.relations status script script_now out out_now → PulledAtMost pulled script script_now
+    run_pulls : (mode : Mode) (beginning : Beginning) → ExchangeFrom pulled output given.contents beginning r mode given.relations status script script_now out out_now → PulledAtMost pulled script script_now
     run_pulls mode beginning (inl (still, put)) = not_pulled still
     run_pulls mode beginning (inr (basis, brought, (s, is, inl (still, put)))) = not_pulled still
-    run_pulls mode beginning (inr (basis, brought, (s, is, inr (begun, wrote, whole)))) = talk_pulls (meaning_of r mode given.relations s.answers) begun status whole.talk
+    run_pulls mode beginning (inr (basis, brought, (s, is, inr (begun, wrote, whole)))) = exchange_pulls (meaning_of r mode given.relations s.answers) begun status whole.exchange
 
     save_pulls : MaySave pulled output r (save_meaning r given.relations) out out_now script script_now status → PulledAtMost pulled script script_now
     save_pulls (inl (still, same)) = not_pulled still
-    save_pulls (inr silent) = talk_pulls (silently (save_meaning r given.relations)) out status silent.talk
+    save_pulls (inr silent) = exchange_pulls (silently (save_meaning r given.relations)) out status silent.exchange
 
 module _ {H S K : Type 0} (fetched : ByFetch H S K) (pulled : ByPull S K) (output : K → Output) (given : Given) (status : Status) (shelf shelf_now : H) (script script_now : S) (out out_now : K)
     (made : Calls fetched pulled output given status shelf shelf_now script script_now out out_now) where
@@ -400,16 +400,16 @@ module _ {H S K : Type 0} (fetched : ByFetch H S K) (pulled : ByPull S K) (outpu
 
   module _ (origin : Origin) (asked : IsRun given.words origin) where
     run_fetches : CallsForRun fetched pulled output given origin asked.beginning asked.mode status shelf shelf_now script script_now out out_now → FetchedInOrder still_fetched given shelf shelf_now
-    run_fetches (inl (r, between, called, saved, talks)) = run_due still_fetched given shelf shelf_now origin asked r between (status ≡ FailedFetch) called saved
+    run_fetches (inl (r, between, called, saved, exchanges)) = run_due still_fetched given shelf shelf_now origin asked r between (status ≡ FailedFetch) called saved
     run_fetches (inr (vain, still, put)) = vain_due still_fetched given shelf shelf_now origin (run_named still_fetched given shelf shelf_now origin asked) status vain
 
     run_lines : CallsForRun fetched pulled output given origin asked.beginning asked.mode status shelf shelf_now script script_now out out_now
         → MayPut output out out_now (λ lines. IsOneLine lines ⊎ AreOfRun given asked.mode asked.beginning lines)
-    run_lines (inl (r, between, called, saved, talks)) = run_puts output out out_now pulled given script script_now r asked.mode asked.beginning status talks
+    run_lines (inl (r, between, called, saved, exchanges)) = run_puts output out out_now pulled given script script_now r asked.mode asked.beginning status exchanges
     run_lines (inr (vain, still, put)) = one_or output out out_now (AreOfRun given asked.mode asked.beginning) (one_line output out out_now status put)
 
     run_reads : CallsForRun fetched pulled output given origin asked.beginning asked.mode status shelf shelf_now script script_now out out_now → PulledAtMost pulled script script_now
-    run_reads (inl (r, between, called, saved, talks)) = run_pulls pulled output script script_now out out_now given r status asked.mode asked.beginning talks
+    run_reads (inl (r, between, called, saved, exchanges)) = run_pulls pulled output script script_now out out_now given r status asked.mode asked.beginning exchanges
     run_reads (inr (vain, still, put)) = not_pulled pulled output script script_now still
 
   -- ---- a save
@@ -471,16 +471,16 @@ module _ {H S K : Type 0} (fetched : ByFetch H S K) (pulled : ByPull S K) (outpu
   abbrev Untouched : Type 0
   Untouched = (script_now ≡ script) × (output out_now ≡ output out)
 
-  untouched_by_talk : (r : Rules) (mode : Mode) (beginning : Beginning) → status ≡ FailedFetch → TalksFrom pulled output given.contents beginning r mode given.relations status script script_now out out_now → Untouched
-  untouched_by_talk r mode beginning failed (inl (still, put)) = (still, no_line (output out) (output out_now) status failed put)
-  untouched_by_talk r mode beginning failed (inr (basis, brought, (s, is, inl (still, inl same)))) = (still, ap output same)
-  untouched_by_talk r mode beginning failed (inr (basis, brought, (s, is, inl (still, inr (fault, part))))) = absurd (let wrong : FailedFetch ≡ WriteFault = sym failed ∙ fault in cc)
-  untouched_by_talk r mode beginning failed (inr (basis, brought, (s, is, inr (begun, wrote, whole)))) =
-      absurd (subst (Told (output begun) (output out_now) (meaning_of r mode given.relations s.answers) (bytes_of whole.talk.pieces)) failed whole.told)
+  untouched_by_exchange : (r : Rules) (mode : Mode) (beginning : Beginning) → status ≡ FailedFetch → ExchangeFrom pulled output given.contents beginning r mode given.relations status script script_now out out_now → Untouched
+  untouched_by_exchange r mode beginning failed (inl (still, put)) = (still, no_line (output out) (output out_now) status failed put)
+  untouched_by_exchange r mode beginning failed (inr (basis, brought, (s, is, inl (still, inl same)))) = (still, ap output same)
+  untouched_by_exchange r mode beginning failed (inr (basis, brought, (s, is, inl (still, inr (fault, part))))) = absurd (let wrong : FailedFetch ≡ WriteFault = sym failed ∙ fault in cc)
+  untouched_by_exchange r mode beginning failed (inr (basis, brought, (s, is, inr (begun, wrote, whole)))) =
+      absurd (subst (Told (output begun) (output out_now) (meaning_of r mode given.relations s.answers) (bytes_of whole.exchange.pieces)) failed whole.told)
 
   untouched_by_run : (origin : Origin) (asked : IsRun given.words origin) → status ≡ FailedFetch
       → CallsForRun fetched pulled output given origin asked.beginning asked.mode status shelf shelf_now script script_now out out_now → Untouched
-  untouched_by_run origin asked failed (inl (r, between, called, saved, talks)) = untouched_by_talk r asked.mode asked.beginning failed talks
+  untouched_by_run origin asked failed (inl (r, between, called, saved, exchanges)) = untouched_by_exchange r asked.mode asked.beginning failed exchanges
   untouched_by_run origin asked failed (inr (vain, still, put)) = (still, no_line (output out) (output out_now) status failed put)
 
   untouched_by_save : (origin : Origin) → status ≡ FailedFetch → CallsForSave fetched pulled output given origin status shelf shelf_now script script_now out out_now → Untouched
@@ -518,7 +518,7 @@ module _ {H S K : Type 0} (fetched : ByFetch H S K) (pulled : ByPull S K) (outpu
 
   program_run : (b : BuiltIn) (asked : IsRun given.words (program b)) → asked.beginning ≡ unanswered
       → CallsForRun fetched pulled output given (program b) asked.beginning asked.mode status shelf shelf_now script script_now out out_now → (shelf_now ≡ shelf) × (status ≢ FailedFetch)
-  program_run b asked none (inl (r, between, (still, is), saved, talks)) =
+  program_run b asked none (inl (r, between, (still, is), saved, exchanges)) =
       let unsaved : (shelf_now ≡ between) × ((status ≡ FailedFetch) → ⊥) = subst (λ (from : Beginning). CallsForSaved still_fetched from (status ≡ FailedFetch) between shelf_now) none saved in
       (unsaved.0 ∙ still, unsaved.1)
   program_run b asked none (inr (inl wrong, still, put)) = absurd wrong

@@ -14,9 +14,9 @@ use Rattle.interview.specs.declared.status.Status.{Status}
 use Rattle.interview.specs.declared.status.Status.TheVariants.{Done, ReadFault, WriteFault, ScriptTooLong, NoMemory}
 use Rattle.answers.specs.Answered.{Answered}
 use Rattle.interview.specs.Meanings.{IsQuit, Meaning, texts}
-use Rattle.interview.specs.Talk.{Leaves, Told}
+use Rattle.interview.specs.Exchange.{Leaves, Told}
 use Rattle.interview.specs.Interview.{script_limit, answered_lines, defined_script}
-use Rattle.interview.specs.Telling.{LineOutputAs, LinesOutput, SomeOutput}
+use Rattle.interview.specs.AnsweredLines.{LineOutputAs, LinesOutput, SomeOutput}
 use Rattle.interview.specs.Save.{LeavesAnswers}
 use Rattle.interview.specs.SoFar.{AnsweredSoFar}
 use Rattle.interview.specs.Devices.{SentPart}

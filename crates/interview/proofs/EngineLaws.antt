@@ -7,7 +7,8 @@ use Rattle.script_lines.specs.Joined.{joined}
 use Rattle.script_lines.specs.Lines.{ScriptLine, whole, long, script_lines, ended_lines}
 use Rattle.script_lines.specs.Parsing.{Heard, nothing, bad_line, command, heard_in}
 use Rattle.script_lines.specs.declared.command.Command.{Command}
-use Rattle.script_lines.specs.declared.command.Command.TheVariants.{Set, Clear, OpenList, Add, Remove, Override, Release, Undo, Redo, Get, Final, Stamp, Touched, Missing, Watch, Unwatch, Quit}
+use Rattle.script_lines.specs.declared.command.Command.TheVariants.{Set, Clear, OpenList, Add, Remove, Override, Release, Undo, Redo, Get, Final, Stamp, Touched, Missing, Unwatch, Quit}
+use Rattle.script_lines.specs.declared.command.Command.TheVariants as commands
 use Rattle.script_lines.proofs.EndedLaws.{lines_go_on}
 use Rattle.session_undo.specs.Timeline.{Timeline}
 use Rattle.answers.specs.Answered.{Answered}
@@ -24,7 +25,7 @@ use Rattle.interview.specs.declared.status.Status.TheVariants.{Done, DictionaryR
 use Rattle.interview.specs.Beginnings.{Basis}
 use Rattle.interview.specs.Dictionaries.{Content}
 use Rattle.interview.specs.Ends.{ComesTo, EndedByRun, Interviewed, KnownRun}
-use Rattle.interview.specs.Engines.{AsksNoCounts, EndedSo, EnginesAgree, LinesAgree, RunsAgree, Twins, asks_counts, is_of_counts, line_asks_counts}
+use Rattle.interview.specs.Engines.{AsksNoCounts, EndedSo, EnginesAgree, LinesAgree, RunsAgree, RunAndPlainRun, asks_counts, is_of_counts, line_asks_counts}
 use Rattle.interview.specs.Given.{Did, EndedAs, Given, IsOneOf}
 use Rattle.interview.specs.Interview.{Defined, GoesOnTo, RunsTo, answered_lines, defined_script, script_limit}
 use Rattle.interview.specs.Meanings.{meaning_of}
@@ -34,7 +35,7 @@ use Rattle.interview.proofs.RunLaws.{one_run}
 use Rattle.session_lines.specs.Replies.{missing_output, reply_text}
 use Rattle.session_lines.specs.Stepping.{LineState, State, Step, at_start, cut_watch, open_at, place_in, put_watch, replies, said, state_after, step, step_answered, step_command, step_heard, step_line, watch_decided}
 use Rattle.fact_watch.specs.Refusals.{unwatch_refusal, watch_refusal}
-use Rattle.fact_watch.specs.Watching.{Pair}
+use Rattle.fact_watch.specs.Watching.{Watch}
 use Rattle.fact_watch.specs.declared.commands.WatchRefusal.{WatchRefusal}
 use Rattle.fact_values.specs.declared.slot.Slot.{Slot}
 
@@ -83,9 +84,9 @@ missing_same : (r : Rules) (c : SessionState) (o : Result Slot Refusal) → miss
 missing_same r c (Ok slot) = refl
 missing_same r c (Err refusal) = refl
 
-decided_same : (s : LineState) (pairs : List Pair) (o : Option WatchRefusal) → watch_decided (plain_line_state s) pairs o ≡ plain_step (watch_decided s pairs o)
-decided_same s pairs None = refl
-decided_same s pairs (Some refusal) = refl
+decided_same : (s : LineState) (watched : List Watch) (o : Option WatchRefusal) → watch_decided (plain_line_state s) watched o ≡ plain_step (watch_decided s watched o)
+decided_same s watched None = refl
+decided_same s watched (Some refusal) = refl
 
 put_same : (s : LineState) (name : List ℕ) (o : Result Slot Refusal) → put_watch (plain_line_state s) name o ≡ plain_step (put_watch s name o)
 put_same s name (Ok slot) = decided_same s _ (watch_refusal (place_in s.relations name) s.watched slot)
@@ -111,7 +112,7 @@ command_same r s (Final path) none = answered_same r s (Final path) (session.ref
 command_same r s (Stamp path) none = absurd cc
 command_same r s Touched none = absurd cc
 command_same r s (Missing path) none = ap {A = List (List ℕ)} {B = Step} (λ lines. record { lines = lines; state = open_at (plain_line_state s) }) (missing_same r s.session_state (slot_found r s.session_state.timeline.now path))
-command_same r s (Watch name path) none = put_same s name (slot_found r s.session_state.timeline.now path)
+command_same r s (commands.Watch name path) none = put_same s name (slot_found r s.session_state.timeline.now path)
 command_same r s (Unwatch name path) none = cut_same s name (slot_found r s.session_state.timeline.now path)
 command_same r s Quit none = refl
 
@@ -269,7 +270,7 @@ ended_by_run given did status interviewed so run = by (interviewed.exact run)
     by (inl ended) = ended
     by (inr outside) = let both : true ≡ false = sym (of_outside status outside) ∙ not_of_outside status so in cc
 
-module _ (given other : Given) (twins : Twins given other) where
+module _ (given other : Given) (twins : RunAndPlainRun given other) where
   -- what a run with this mode comes to over what the first is given
   abbrev Runs : Mode → Defined → Type 0
   Runs mode d = RunsTo twins.run.content given.checks twins.run.basis mode given.relations twins.run.script d

@@ -24,7 +24,7 @@ use Rattle.interview.specs.Finals.{AreFinalsKept}
 use Rattle.interview.specs.FinalFigures.{FinalsAreFigures}
 use Rattle.interview.proofs.FigureLaws.{finals_are_figures}
 use Rattle.interview.specs.Meanings.{meaning_of, texts}
-use Rattle.interview.specs.Devices.{Around, SentPart, SentWhole, SinkFailed, SourceFailed}
+use Rattle.interview.specs.Devices.{BeforeAfter, SentPart, SentWhole, SinkFailed, SourceFailed}
 use Rattle.interview.specs.GenEnds.{GenInterviewed}
 use Rattle.interview.specs.SaveEnds.{SaveInterviewed}
 use Rattle.interview.specs.ScriptEnds.{ReadThrough, ScriptEndsAs, did_behind}
@@ -453,7 +453,7 @@ module _ (given : Given) where
         run_part k d runs (begun_run run some.0 some.1) (front_part (joined run.start.front) (defined_script (meaning_in given run) some.0).text part.1)
 
     -- the replies to the first lines
-    part_by_first : (run : BegunRun given) (script : List ℕ) (lines others : List ScriptLine) → answered_lines script ≡ lines ++ others → (output : Around Output) → SentWhole output (texts (meaning_in given run) lines)
+    part_by_first : (run : BegunRun given) (script : List ℕ) (lines others : List ScriptLine) → answered_lines script ≡ lines ++ others → (output : BeforeAfter Output) → SentWhole output (texts (meaning_in given run) lines)
         → SentPart output (defined_script (meaning_in given run) script).text
     part_by_first run script lines others answers output wrote =
         let begins = meaning_begins run.over.rules run.over.asked.mode given.relations run.start.answers in

@@ -2,8 +2,8 @@
 use Rattle.std.proofs.Common.{ℕ, Bool, true, false, List, [], ◌∷◌, ◌++◌, Option, Some, None, Result, Ok, Err}
 use Rattle.std.specs.Prelude.{if◌then◌else◌}
 use Rattle.fact_values.specs.declared.slot.Slot.{Slot}
-use Rattle.fact_watch.specs.Refusals.{pair_of, unwatch_refusal, watch_refusal}
-use Rattle.fact_watch.specs.Watching.{Pair, without}
+use Rattle.fact_watch.specs.Refusals.{unwatch_refusal, watch_of, watch_refusal}
+use Rattle.fact_watch.specs.Watching.{Watch, without}
 use Rattle.fact_watch.specs.declared.commands.WatchRefusal.{WatchRefusal}
 use Rattle.script_lines.specs.Lines.{ScriptLine, whole, long}
 use Rattle.script_lines.specs.Parsing.{Heard, nothing, bad_line, command, heard_in}
@@ -23,7 +23,7 @@ use Rattle.graph_session.specs.declared.reply.Reply.{Reply}
 use Rattle.graph_session.proofs.FitLaws.{step_fits}
 use Rattle.graph_session.proofs.SoundLaws.{fit_start}
 use Rattle.interview.specs.Meanings.{of_session}
-use Rattle.session_lines.specs.Stepping.{LineState, State, Terms, at_start, cut_watch, place_in, put_watch, state_after, step, step_answered, step_command, step_heard, step_line, watch_decided}
+use Rattle.session_lines.specs.Stepping.{LineState, ScriptStart, State, at_start, cut_watch, place_in, put_watch, state_after, step, step_answered, step_command, step_heard, step_line, watch_decided}
 
 module _ (r : Rules) where
   -- all answers of the session fit, those that `undo` and `redo` lead to as well
@@ -35,16 +35,16 @@ module _ (r : Rules) where
 
   -- ---- watches change no answer
 
-  decided_fits : (s : LineState) (pairs : List Pair) (o : Option WatchRefusal) → StandsFit s → Fit (watch_decided s pairs o).state
-  decided_fits s pairs None all = all
-  decided_fits s pairs (Some refusal) all = all
+  decided_fits : (s : LineState) (watched : List Watch) (o : Option WatchRefusal) → StandsFit s → Fit (watch_decided s watched o).state
+  decided_fits s watched None all = all
+  decided_fits s watched (Some refusal) all = all
 
   put_fits : (s : LineState) (name : List ℕ) (found : Result Slot Refusal) → StandsFit s → Fit (put_watch s name found).state
-  put_fits s name (Ok slot) all = decided_fits s (s.watched ++ pair_of (place_in s.relations name) slot ∷ []) (watch_refusal (place_in s.relations name) s.watched slot) all
+  put_fits s name (Ok slot) all = decided_fits s (s.watched ++ watch_of (place_in s.relations name) slot ∷ []) (watch_refusal (place_in s.relations name) s.watched slot) all
   put_fits s name (Err refusal) all = all
 
   cut_fits : (s : LineState) (name : List ℕ) (found : Result Slot Refusal) → StandsFit s → Fit (cut_watch s name found).state
-  cut_fits s name (Ok slot) all = decided_fits s (without (pair_of (place_in s.relations name) slot) s.watched) (unwatch_refusal (place_in s.relations name) s.watched slot) all
+  cut_fits s name (Ok slot) all = decided_fits s (without (watch_of (place_in s.relations name) slot) s.watched) (unwatch_refusal (place_in s.relations name) s.watched slot) all
   cut_fits s name (Err refusal) all = all
 
   -- ---- a line
@@ -83,5 +83,5 @@ module _ (r : Rules) where
     lines_fit state [] all = all
     lines_fit state (line ∷ lines) all = lines_fit (step r state line).state lines (state_fits state line all)
 
-    pub lines_lead_to_fit : (terms : Terms) → AnswersFit (tree_of r) terms.answers → (lines : List ScriptLine) → AnswersFit (tree_of r) ((of_session r (at_start r terms)).answers lines)
-    lines_lead_to_fit terms fit lines = (lines_fit (at_start r terms) lines (fit_start (tree_of r) terms.answers fit)).now
+    pub lines_lead_to_fit : (start : ScriptStart) → AnswersFit (tree_of r) start.answers → (lines : List ScriptLine) → AnswersFit (tree_of r) ((of_session r (at_start r start)).answers lines)
+    lines_lead_to_fit start fit lines = (lines_fit (at_start r start) lines (fit_start (tree_of r) start.answers fit)).now

@@ -24,6 +24,6 @@ pub mod ScriptLaws
 pub mod SoFarLaws
 pub mod StartLaws
 pub mod StepLaws
-pub mod TellingLaws
+pub mod AnsweredLineLaws
 pub mod TopLaws
 pub mod WordLaws

@@ -19,7 +19,7 @@ use Rattle.interview.specs.declared.status.Status.{Status}
 use Rattle.interview.specs.declared.status.Status.TheVariants.{Done}
 use Rattle.interview.specs.declared.words.Mode.TheVariants.{Incremental}
 use Rattle.interview.specs.Words.{HasNoForm, IsGen}
-use Rattle.interview.specs.Devices.{Around}
+use Rattle.interview.specs.Devices.{BeforeAfter}
 use Rattle.interview.specs.Interview.{defined_script}
 use Rattle.interview.specs.Meanings.{Meaning, meaning_of}
 use Rattle.interview.specs.StepEnds.{EndedBy}
@@ -89,7 +89,7 @@ summed_of_load r relations n facts nodes lines made_script replies is a b c same
 summed_of_load r relations n facts nodes lines made_script replies is a b c same replied (Err fault) sum = tt
 
 module _ (relations : List Named) (n : ℕ) (r : Rules) (is : IsOfLoad n r) where
-  pub generated_by : (output : Around Output) (status : Status) → EndedBy output.before output.after (joined (gen_lines r relations n)) Done status → GeneratedAs relations n output status
+  pub generated_by : (output : BeforeAfter Output) (status : Status) → EndedBy output.before output.after (joined (gen_lines r relations n)) Done status → GeneratedAs relations n output status
   generated_by output status (inl (ended, wrote)) = subst (GeneratedAs relations n output) (sym ended) (defined_gen r relations n, (r, is, refl), wrote)
   generated_by output status (inr (ended, rose, part)) = subst (GeneratedAs relations n output) (sym ended) (rose, (defined_gen r relations n, (r, is, refl), part))
 

@@ -10,7 +10,7 @@ use Rattle.script_lines.proofs.EndedLaws.{ended_follows}
 use Rattle.answers.specs.Answered.{Answered}
 use Rattle.dict_meaning.specs.Accepted.{Accepted}
 use Rattle.interview.specs.Meanings.{Behind, IsBeginning, Meaning}
-use Rattle.interview.specs.Telling.{LinesOutput, SomeOutput}
+use Rattle.interview.specs.AnsweredLines.{LinesOutput, SomeOutput}
 use Rattle.interview.proofs.MeaningLaws.{behind_none, behind_on}
 
 -- what the slice behind n bytes is

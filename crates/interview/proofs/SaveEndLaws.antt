@@ -11,7 +11,7 @@ use Rattle.built_in.specs.declared.built_in.BuiltIn.{BuiltIn}
 use Rattle.interview.specs.declared.status.Status.{Status}
 use Rattle.interview.specs.declared.status.Status.TheVariants.{Done, DictionaryRefused, Usage, FetchFault, ReadFault, WriteFault, ScriptTooLong, NoMemory, SavedRefused}
 use Rattle.interview.specs.Words.{IsCheck, IsRun, IsSave, Origin, file, program}
-use Rattle.interview.specs.Devices.{Around, SentNothing, SentPart, SentWhole, SinkFailed, SourceFailed}
+use Rattle.interview.specs.Devices.{BeforeAfter, SentNothing, SentPart, SentWhole, SinkFailed, SourceFailed}
 use Rattle.interview.specs.Dictionaries.{Content, Gives, HasFault, IsAcceptedAs, MayGive}
 use Rattle.interview.specs.Given.{Did, EndedAs, Given, IsOneOf, Unread}
 use Rattle.interview.specs.Ends.{Ends, EndsByWord, Interviewed, IsFetched, LinePart}
@@ -48,7 +48,7 @@ none_of_unwritten (inr (inr (inr (inl is)))) = cc
 none_of_unwritten (inr (inr (inr (inr is)))) = is
 
 -- what took nothing took the empty text
-nothing_whole : (output : Around Output) → SentNothing output → SentWhole output []
+nothing_whole : (output : BeforeAfter Output) → SentNothing output → SentWhole output []
 nothing_whole output kept = Appends-kept output.before.taken output.before.taken output.after.taken [] (appends_none output.before.taken) kept
 
 -- some words that save, where it ended by their table

@@ -16,9 +16,9 @@ use Rattle.script_lines.specs.Lines.{ScriptLine, script_lines, ended_lines, HasN
 use Rattle.script_lines.proofs.EndedLaws.{ended_follows, ended_goes_on, lines_go_on}
 use Rattle.interview.specs.declared.status.Status.TheVariants.{Done, ScriptTooLong, NoMemory}
 use Rattle.interview.specs.Meanings.{Behind, IsBeginning, IsQuit, Meaning, texts}
-use Rattle.interview.specs.Telling.{LinesOutput}
+use Rattle.interview.specs.AnsweredLines.{LinesOutput}
 use Rattle.interview.specs.SoFar.{AnsweredSoFar}
-use Rattle.interview.specs.Devices.{Around, SentNothing, SentPart, SentWhole}
+use Rattle.interview.specs.Devices.{BeforeAfter, SentNothing, SentPart, SentWhole}
 use Rattle.interview.specs.ScriptEnds.{ScriptDid, RepliedFirst, ScriptEnds}
 use Rattle.interview.specs.Interview.{script_limit, answered_lines, defined_script}
 use Rattle.interview.proofs.MeaningLaws.{behind_none, behind_on, texts_behind}
@@ -125,11 +125,11 @@ more_so_far m there next a b c left left_now left_next count n held held_next ch
 -- ---- ends
 
 -- a text was written whole, and what is defined goes on behind it
-pub part_of : (output : Around Output) (text more defined : List ℕ) → defined ≡ text ++ more → SentWhole output text → SentPart output defined
+pub part_of : (output : BeforeAfter Output) (text more defined : List ℕ) → defined ≡ text ++ more → SentWhole output text → SentPart output defined
 part_of output text more defined split wrote = (more, record { front = text; took = wrote; split = split })
 
 -- nothing is a part of every text
-pub nothing_part : (output : Around Output) (text : List ℕ) → SentNothing output → SentPart output text
+pub nothing_part : (output : BeforeAfter Output) (text : List ℕ) → SentNothing output → SentPart output text
 nothing_part output text kept =
     part_of output [] text text refl (Appends-kept output.before.taken output.before.taken output.after.taken [] (appends_none output.before.taken) kept)
 
@@ -138,7 +138,7 @@ module _ (m : Meaning) (script : List ℕ) (lines others : List ScriptLine) (res
   pub first_lines : (defined_script m script).text ≡ texts m lines ++ texts rest others
   first_lines = defined_text m script ∙ ap (texts m) answers ∙ texts_behind m rest lines others left
 
-  pub part_by_lines : (output : Around Output) → SentWhole output (texts m lines) → SentPart output (defined_script m script).text
+  pub part_by_lines : (output : BeforeAfter Output) → SentWhole output (texts m lines) → SentPart output (defined_script m script).text
   part_by_lines output wrote = part_of output (texts m lines) (texts rest others) (defined_script m script).text first_lines wrote
 
 -- the replies to the first lines of a script were written

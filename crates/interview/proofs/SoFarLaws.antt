@@ -11,8 +11,8 @@ use Rattle.interview.specs.declared.status.Status.{Status}
 use Rattle.interview.specs.declared.status.Status.TheVariants.{ReadFault}
 use Rattle.interview.specs.Interview.{script_limit}
 use Rattle.interview.specs.Meanings.{Meaning}
-use Rattle.interview.specs.SoFar.{AnsweredSoFar, TalkedSoFar}
-use Rattle.interview.specs.Talk.{bytes_of, IsToGoOn, Leaves, PiecesFollowReplies, PulledBehind, TalkLeaves, Told, asked_behind}
+use Rattle.interview.specs.SoFar.{AnsweredSoFar, ExchangeSoFar}
+use Rattle.interview.specs.Exchange.{bytes_of, IsToGoOn, Leaves, PiecesFollowReplies, PulledBehind, ExchangeLeaves, Told, asked_behind}
 
 -- ---- its lines
 
@@ -32,59 +32,59 @@ module _ (m : Meaning) (left left_now : Option (List ℕ)) (sink sink_now : Outp
 
 module _ {S K : Type 0} (pulled : ByPull S K) (output : K → Output) (m : Meaning) (out : K) (script : S) where
   -- before the first
-  pub talked_none : TalkedSoFar pulled output m out script [] script
-  talked_none = record { pieces = []; came = refl; same = refl; unended = All-nil _ }
+  pub exchange_unbegun : ExchangeSoFar pulled output m out script [] script
+  exchange_unbegun = record { pieces = []; came = refl; same = refl; unended = All-nil _ }
 
   module _ (left left_now : Option (List ℕ)) (out_now : K) (count : ℕ) (there : Meaning) (held : List ℕ) (so_far : AnsweredSoFar m left left_now (output out) (output out_now) count there held)
-      (script_now : S) (talked : TalkedSoFar pulled output m out script so_far.bytes script_now) (short : count ≤ script_limit) where
-    goes_on : IsToGoOn output m out talked.pieces out_now
+      (script_now : S) (exchanged : ExchangeSoFar pulled output m out script so_far.bytes script_now) (short : count ≤ script_limit) where
+    goes_on : IsToGoOn output m out exchanged.pieces out_now
     goes_on = record {
-      unended = talked.unended;
-      within = omega (arith, so_far.counted, ap length talked.same, short);
-      unquit = ap (λ (bytes : List ℕ). m.over (ended_lines bytes)) talked.same ∙ unquit_so_far m left left_now (output out) (output out_now) count there held so_far;
-      replied = subst (λ (bytes : List ℕ). WroteLines (output out) (output out_now) (m.replies (ended_lines bytes))) (sym talked.same)
+      unended = exchanged.unended;
+      within = omega (arith, so_far.counted, ap length exchanged.same, short);
+      unquit = ap (λ (bytes : List ℕ). m.over (ended_lines bytes)) exchanged.same ∙ unquit_so_far m left left_now (output out) (output out_now) count there held so_far;
+      replied = subst (λ (bytes : List ℕ). WroteLines (output out) (output out_now) (m.replies (ended_lines bytes))) (sym exchanged.same)
           (replied_so_far m left left_now (output out) (output out_now) count there held so_far);
     }
 
     module _ (room : ℕ) (script_next : S) where
-      behind : (came : Pulled) → pulled script_now out_now room came script_next → room ≡ asked_behind count → PulledBehind pulled output m out talked.pieces script_now script_next came
+      behind : (came : Pulled) → pulled script_now out_now room came script_next → room ≡ asked_behind count → PulledBehind pulled output m out exchanged.pieces script_now script_next came
       behind came call asked = record {
         out_now = out_now;
         goes_on = goes_on;
-        call = subst (λ (n : ℕ). pulled script_now out_now n came script_next) (asked ∙ ap asked_behind (so_far.counted ∙ ap length (sym talked.same))) call;
+        call = subst (λ (n : ℕ). pulled script_now out_now n came script_next) (asked ∙ ap asked_behind (so_far.counted ∙ ap length (sym exchanged.same))) call;
       }
 
       module _ (piece : List ℕ) (call : pulled script_now out_now room (gave piece) script_next) (asked : room ≡ asked_behind count) where
         -- one more, which wasn't the end
-        pub talked_more : 0 < length piece → (bytes : List ℕ) → bytes ≡ so_far.bytes ++ piece → TalkedSoFar pulled output m out script bytes script_next
-        talked_more some bytes same = record {
-          pieces = piece ∷ talked.pieces;
-          came = (script_now, talked.came, behind (gave piece) call asked);
-          same = ap (λ (earlier : List ℕ). earlier ++ piece) talked.same ∙ sym same;
-          unended = All-cons (λ bytes. 0 < length bytes) piece talked.pieces some talked.unended;
+        pub exchange_goes_on : 0 < length piece → (bytes : List ℕ) → bytes ≡ so_far.bytes ++ piece → ExchangeSoFar pulled output m out script bytes script_next
+        exchange_goes_on some bytes same = record {
+          pieces = piece ∷ exchanged.pieces;
+          came = (script_now, exchanged.came, behind (gave piece) call asked);
+          same = ap (λ (earlier : List ℕ). earlier ++ piece) exchanged.same ∙ sym same;
+          unended = All-cons (λ bytes. 0 < length bytes) piece exchanged.pieces some exchanged.unended;
         }
 
         -- the last
-        pub talk_ends : (status : Status) (out_end : K) (answers : Answered) → Told (output out) (output out_end) m (so_far.bytes ++ piece) status → Leaves m (so_far.bytes ++ piece) answers status
-            → TalkLeaves pulled output m out out_end script script_next answers status
-        talk_ends status out_end answers told left = (
+        pub exchange_ends : (status : Status) (out_end : K) (answers : Answered) → Told (output out) (output out_end) m (so_far.bytes ++ piece) status → Leaves m (so_far.bytes ++ piece) answers status
+            → ExchangeLeaves pulled output m out out_end script script_next answers status
+        exchange_ends status out_end answers told left = (
           record {
-            talk = record { pieces = piece ∷ talked.pieces; between = script_next; came = (script_now, talked.came, behind (gave piece) call asked); last = inl refl };
+            exchange = record { pieces = piece ∷ exchanged.pieces; between = script_next; came = (script_now, exchanged.came, behind (gave piece) call asked); last = inl refl };
             told = subst (λ (bytes : List ℕ). Told (output out) (output out_end) m bytes status) (sym same_bytes) told;
           },
           subst (λ (bytes : List ℕ). Leaves m bytes answers status) (sym same_bytes) left,
         )
           where
-            same_bytes : bytes_of talked.pieces ++ piece ≡ so_far.bytes ++ piece
-            same_bytes = ap (λ (earlier : List ℕ). earlier ++ piece) talked.same
+            same_bytes : bytes_of exchanged.pieces ++ piece ≡ so_far.bytes ++ piece
+            same_bytes = ap (λ (earlier : List ℕ). earlier ++ piece) exchanged.same
 
       -- it failed
-      pub talk_fails : pulled script_now out_now room faulted script_next → room ≡ asked_behind count → ((bytes : List ℕ) → bytes ≡ so_far.bytes → Told (output out) (output out_now) m bytes ReadFault)
-          → (answers : Answered) → TalkLeaves pulled output m out out_now script script_next answers ReadFault
-      talk_fails call asked told answers = (
+      pub exchange_fails : pulled script_now out_now room faulted script_next → room ≡ asked_behind count → ((bytes : List ℕ) → bytes ≡ so_far.bytes → Told (output out) (output out_now) m bytes ReadFault)
+          → (answers : Answered) → ExchangeLeaves pulled output m out out_now script script_next answers ReadFault
+      exchange_fails call asked told answers = (
         record {
-          talk = record { pieces = talked.pieces; between = script_now; came = talked.came; last = inr (refl, behind faulted call asked) };
-          told = told (bytes_of talked.pieces) talked.same;
+          exchange = record { pieces = exchanged.pieces; between = script_now; came = exchanged.came; last = inr (refl, behind faulted call asked) };
+          told = told (bytes_of exchanged.pieces) exchanged.same;
         },
         tt,
       )

@@ -15,7 +15,7 @@ use Rattle.script_lines.specs.Joined.{joined}
 use Rattle.interview.specs.Meanings.{Meaning, meaning_of}
 use Rattle.interview.specs.declared.status.Status.{Status}
 use Rattle.interview.specs.declared.status.Status.TheVariants.{Done, ReadFault, WriteFault, ScriptTooLong, NoMemory}
-use Rattle.interview.specs.Devices.{Around, SentPart, SentWhole}
+use Rattle.interview.specs.Devices.{BeforeAfter, SentPart, SentWhole}
 use Rattle.interview.specs.ScriptEnds.{ReadThrough, ScriptDid, ScriptEnds, UnreadScript, did_behind}
 use Rattle.interview.specs.StepEnds.{Gives, ResumedAs, RunEnds, StartEnds}
 use Rattle.interview.specs.declared.resuming.Ready.{Ready}
@@ -26,13 +26,13 @@ use Rattle.interview.specs.Words.{Beginning}
 -- ---- what the sink took in all
 
 -- from there on
-abbrev pub taken_from : Around Output → Option (List ℕ) → Around Output
+abbrev pub taken_from : BeforeAfter Output → Option (List ℕ) → BeforeAfter Output
 taken_from output taken = record { before = record output.before { taken = taken }; after = output.after }
 
-pub whole_behind : (output : Around Output) (taken : Option (List ℕ)) (front text : List ℕ) → Appends output.before.taken taken front → SentWhole (taken_from output taken) text → SentWhole output (front ++ text)
+pub whole_behind : (output : BeforeAfter Output) (taken : Option (List ℕ)) (front text : List ℕ) → Appends output.before.taken taken front → SentWhole (taken_from output taken) text → SentWhole output (front ++ text)
 whole_behind output taken front text first second = appends_more output.before.taken taken output.after.taken front text first second
 
-pub part_behind : (output : Around Output) (taken : Option (List ℕ)) (front text : List ℕ) → Appends output.before.taken taken front → SentPart (taken_from output taken) text → SentPart output (front ++ text)
+pub part_behind : (output : BeforeAfter Output) (taken : Option (List ℕ)) (front text : List ℕ) → Appends output.before.taken taken front → SentPart (taken_from output taken) text → SentPart output (front ++ text)
 part_behind output taken front text first (rest, sent) =
     (rest, sent_on output.before.taken taken output.after.taken front text rest (whole_sent output.before.taken taken front first) sent)
 

@@ -16,7 +16,7 @@ use Rattle.interview.specs.Given.{Given}
 use Rattle.interview.specs.Load.{IsOfLoad, gen_lines}
 use Rattle.interview.specs.Meanings.{Meaning, meaning_of}
 use Rattle.interview.specs.Save.{save_meaning}
-use Rattle.interview.specs.Talk.{IsToGoOn, Talk}
+use Rattle.interview.specs.Exchange.{IsToGoOn, Exchange}
 use Rattle.interview.specs.Words.{Beginning, HasNoForm, IsCheck, IsForm, IsFrom, IsGen, IsRun, IsSave, Origin, beginning_of, file, program, unanswered}
 use Rattle.interview.specs.declared.status.Status.{Status}
 use Rattle.interview.specs.declared.status.Status.TheVariants.{FetchFault as FailedFetch}
@@ -147,11 +147,11 @@ pub record PulledInOrder {S K : Type 0} (pulled : ByPull S K) (output : K → Ou
   pub came : CameByPulls pulled pulls script script_now
   pub each : EachFollowsReplies output m out pulls
 
--- In a talk the reply to each line is put whole before more of the script is pulled, also where that pull fails, and nothing is pulled
+-- In an exchange the reply to each line is put whole before more of the script is pulled, also where that pull fails, and nothing is pulled
 -- behind the end, or behind the piece in which `quit` ended. Before the first reply the sink stood so.
 abbrev pub PullsFollowReplies : {S K : Type 0} → ByPull S K → (K → Output) → Type 0
 PullsFollowReplies {S} {K} pulled output =
-    (m : Meaning) (out : K) (script script_now : S) (status : Status) → Talk pulled output m out script script_now status → PulledInOrder pulled output m out script script_now
+    (m : Meaning) (out : K) (script script_now : S) (status : Status) → Exchange pulled output m out script script_now status → PulledInOrder pulled output m out script script_now
 
 -- ---- a device that failed
 

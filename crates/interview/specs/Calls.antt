@@ -21,7 +21,7 @@ use Rattle.interview.specs.LastLines.{PutsOneLine}
 use Rattle.interview.specs.Load.{IsOfLoad, gen_lines}
 use Rattle.interview.specs.Meanings.{Meaning, meaning_of, silently}
 use Rattle.interview.specs.Save.{save_meaning}
-use Rattle.interview.specs.Talk.{MayBegin, Talk, bytes_of}
+use Rattle.interview.specs.Exchange.{MayBegin, Exchange, bytes_of}
 use Rattle.interview.specs.Words.{Beginning, HasNoForm, IsCheck, IsGen, IsRun, IsSave, Origin, by_carry, by_load, file, program, unanswered}
 use Rattle.interview.specs.declared.status.Status.{Status}
 use Rattle.interview.specs.declared.status.Status.TheVariants.{Done, FetchFault as FailedFetch, NoMemory, WriteFault}
@@ -84,9 +84,9 @@ CallsForSaved fetched (by_carry name) ended shelf shelf_now = CallsOnce fetched 
 -- ---- for a script
 
 -- It wasn't pulled, and one line was put, or nothing; or with a start that it may have been given, over these rules, the lines before the
--- replies were put, and then it was pulled as a run talks that begins so, or the put of one of these lines was the last.
-abbrev pub TalksFrom : {S K : Type 0} → ByPull S K → (K → Output) → (List ℕ → Contents) → Beginning → Rules → Mode → List Named → Status → S → S → K → K → Type 0
-TalksFrom pulled output contents beginning r mode relations status script script_now out out_now =
+-- replies were put, and then it was pulled as in an exchange that begins so, or the put of one of these lines was the last.
+abbrev pub ExchangeFrom : {S K : Type 0} → ByPull S K → (K → Output) → (List ℕ → Contents) → Beginning → Rules → Mode → List Named → Status → S → S → K → K → Type 0
+ExchangeFrom pulled output contents beginning r mode relations status script script_now out out_now =
     ((script_now ≡ script) × PutsOneLine (output out) (output out_now) status)
     ⊎ ((basis : Basis) × MayBring contents beginning basis × ((s : Start) × IsStart r basis s
     × MayBegin pulled output (meaning_of r mode relations s.answers) s.front out out_now script script_now status))
@@ -99,7 +99,7 @@ abbrev pub CallsForRun : {H S K : Type 0} → ByFetch H S K → ByPull S K → (
 CallsForRun {H} fetched pulled output given origin beginning mode status shelf shelf_now script script_now out out_now =
     ((r : Rules) × (between : H) × CallsForAccepted (beside fetched script out) given.checks origin r shelf between
     × CallsForSaved (beside fetched script out) beginning (status ≡ FailedFetch) between shelf_now
-    × TalksFrom pulled output given.contents beginning r mode given.relations status script script_now out out_now)
+    × ExchangeFrom pulled output given.contents beginning r mode given.relations status script script_now out out_now)
     ⊎ (CallsInVain (beside fetched script out) given.checks origin status shelf shelf_now × (script_now ≡ script) × PutsOneLine (output out) (output out_now) status)
 
 -- ---- for a save
@@ -112,14 +112,14 @@ PutsSaved output r m bytes WriteFault out out_now = WroteSome (output out) (outp
 PutsSaved output r m bytes other out out_now = out_now ≡ out
 
 -- these are all pulls, and all puts: no reply, and behind the script what is saved
-pub record SilentTalk {S K : Type 0} (pulled : ByPull S K) (output : K → Output) (r : Rules) (m : Meaning) (out out_now : K) (script script_now : S) (status : Status) : Type 0 where
-  pub talk : Talk pulled output (silently m) out script script_now status
-  pub puts : PutsSaved output r m (bytes_of talk.pieces) status out out_now
+pub record SilentExchange {S K : Type 0} (pulled : ByPull S K) (output : K → Output) (r : Rules) (m : Meaning) (out out_now : K) (script script_now : S) (status : Status) : Type 0 where
+  pub exchange : Exchange pulled output (silently m) out script script_now status
+  pub puts : PutsSaved output r m (bytes_of exchange.pieces) status out out_now
 
 -- or the script wasn't pulled, and nothing was put
 abbrev pub MaySave : {S K : Type 0} → ByPull S K → (K → Output) → Rules → Meaning → K → K → S → S → Status → Type 0
 MaySave pulled output r m out out_now script script_now status =
-    ((script_now ≡ script) × (out_now ≡ out)) ⊎ SilentTalk pulled output r m out out_now script script_now status
+    ((script_now ≡ script) × (out_now ≡ out)) ⊎ SilentExchange pulled output r m out out_now script script_now status
 
 -- It was called for the dictionary, and then, where an accepted one came of it, the script was pulled as this dictionary means it, without
 -- a reply, and behind it the answers were saved; over that one it didn't end by a fetch.

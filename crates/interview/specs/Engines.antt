@@ -62,7 +62,7 @@ LinesAgree =
     → reply_behind r true relations a lines line ≡ reply_behind r false relations a lines line
 
 -- A run and a plain run over the same dictionary, saved text and script, which asks for no counts. What they come to is known.
-pub record Twins (given other : Given) : Type 0 where
+pub record RunAndPlainRun (given other : Given) : Type 0 where
   pub run : KnownRun given
   pub plain_run : KnownRun other
   pub by_run : run.asked.mode ≡ Incremental
@@ -81,5 +81,5 @@ EndedSo status = IsOneOf status (Done ∷ DictionaryRefused ∷ ScriptTooLong �
 -- Where both ended as defined, they have one status, and wrote the same bytes.
 abbrev pub RunsAgree : Type 0
 RunsAgree =
-    (given other : Given) → Twins given other → (did also : Did) (status other_status : Status) → Interviewed given did status → Interviewed other also other_status
+    (given other : Given) → RunAndPlainRun given other → (did also : Did) (status other_status : Status) → Interviewed given did status → Interviewed other also other_status
     → EndedSo status → EndedSo other_status → (d : Defined) × EndedAs did status d × EndedAs also other_status d

@@ -4,7 +4,7 @@ use Rattle.std.specs.declared.alloc.Global.{Global}
 use Rattle.fg_io.specs.Outside.{Contents, Files, Input, Output}
 use Rattle.dictionary.specs.AcceptedParts.{Named}
 use Rattle.interview.specs.declared.status.Status.{Status}
-use Rattle.interview.specs.Devices.{Around, SentWhole}
+use Rattle.interview.specs.Devices.{BeforeAfter, SentWhole}
 use Rattle.interview.specs.Interview.{Defined}
 use Rattle.interview.specs.ScriptEnds.{ScriptDid, UnreadScript, script_did}
 use Rattle.interview.specs.Words.{texts}
@@ -21,7 +21,7 @@ pub record Given : Type 0 where
 
 -- what an interview did to the outside
 pub record Did : Type 0 where
-  pub files : Around Files
+  pub files : BeforeAfter Files
   pub script : ScriptDid
 
 abbrev pub given_with : List (List ℕ) → List Named → List Named → Files → Input → Given

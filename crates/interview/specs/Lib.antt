@@ -3,13 +3,13 @@ pub mod Words
 pub mod Beginnings
 pub mod Calls
 pub mod CallOrder
-pub mod Talk
+pub mod Exchange
 pub mod Dictionaries
 pub mod FaultLines
 pub mod Meanings
 pub mod Interview
 pub mod Engines
-pub mod Telling
+pub mod AnsweredLines
 pub mod SoFar
 pub mod Devices
 pub mod ScriptEnds

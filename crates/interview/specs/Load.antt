@@ -13,7 +13,7 @@ use Rattle.graph_session.specs.Rules.{Rules, tree_of}
 use Rattle.interview.specs.declared.status.Status.{Status}
 use Rattle.interview.specs.declared.status.Status.TheVariants.{Done, WriteFault, NoMemory}
 use Rattle.interview.specs.declared.words.Mode.TheVariants.{Incremental}
-use Rattle.interview.specs.Devices.{Around, SentNothing, SentPart, SentWhole, SinkFailed}
+use Rattle.interview.specs.Devices.{BeforeAfter, SentNothing, SentPart, SentWhole, SinkFailed}
 use Rattle.interview.specs.Interview.{Defined, defined_script}
 use Rattle.interview.specs.Meanings.{meaning_of}
 use Rattle.interview.specs.Summary.{summary}
@@ -48,7 +48,7 @@ OneEndOfGen = (relations : List Named) (n : ℕ) (d e : Defined) → GensTo rela
 -- ---- how it ends
 
 -- by its status: what its sink took, and why
-abbrev pub GeneratedAs : List Named → ℕ → Around Output → Status → Type 0
+abbrev pub GeneratedAs : List Named → ℕ → BeforeAfter Output → Status → Type 0
 GeneratedAs relations n output Done = (d : Defined) × GensTo relations n d × SentWhole output d.text
 GeneratedAs relations n output WriteFault = SinkFailed output × ((d : Defined) × GensTo relations n d × SentPart output d.text)
 GeneratedAs relations n output NoMemory = SentNothing output

@@ -7,14 +7,14 @@ use Rattle.session_lines.specs.declared.progress.Progress.{Progress}
 use Rattle.session_lines.specs.declared.progress.Progress.TheVariants.{More, Over, Unwritten, OutOfMemory}
 use Rattle.interview.specs.declared.status.Status.{Status}
 use Rattle.interview.specs.declared.status.Status.TheVariants.{Done, ReadFault, WriteFault, ScriptTooLong, NoMemory}
-use Rattle.interview.specs.Devices.{Around, SentNothing, SentPart, SentWhole, SinkFailed, SourceFailed}
+use Rattle.interview.specs.Devices.{BeforeAfter, SentNothing, SentPart, SentWhole, SinkFailed, SourceFailed}
 use Rattle.interview.specs.Interview.{answered_lines, defined_script, script_limit}
 use Rattle.interview.specs.Meanings.{Meaning, texts}
 
 -- what a script did to its source and its sink
 pub record ScriptDid : Type 0 where
-  pub input : Around Input
-  pub output : Around Output
+  pub input : BeforeAfter Input
+  pub output : BeforeAfter Output
 
 abbrev pub script_did : Input → Input → Output → Output → ScriptDid
 script_did source source_now sink sink_now = record {

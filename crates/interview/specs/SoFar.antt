@@ -5,8 +5,8 @@ use Rattle.fg_io.specs.Outside.{ByPull, Output}
 use Rattle.script_lines.specs.Lines.{HasNoNewline}
 use Rattle.session_lines.specs.Writing.{WroteLines}
 use Rattle.interview.specs.Meanings.{Meaning}
-use Rattle.interview.specs.Talk.{Came, bytes_of}
-use Rattle.interview.specs.Telling.{LinesOutput}
+use Rattle.interview.specs.Exchange.{Came, bytes_of}
+use Rattle.interview.specs.AnsweredLines.{LinesOutput}
 
 -- what follows means this from here on
 pub record AnsweredSoFar (m : Meaning) (left left_now : Option (List ℕ)) (sink sink_now : Output) (count : ℕ) (there : Meaning) (held : List ℕ) : Type 0 where
@@ -18,7 +18,7 @@ pub record AnsweredSoFar (m : Meaning) (left left_now : Option (List ℕ)) (sink
   pub unended : HasNoNewline held
 
 -- these bytes came of it, in pieces, and none of them was the end
-pub record TalkedSoFar {S K : Type 0} (pulled : ByPull S K) (output : K → Output) (m : Meaning) (out : K) (script : S) (bytes : List ℕ) (script_now : S) : Type 0 where
+pub record ExchangeSoFar {S K : Type 0} (pulled : ByPull S K) (output : K → Output) (m : Meaning) (out : K) (script : S) (bytes : List ℕ) (script_now : S) : Type 0 where
   pub pieces : List (List ℕ)
   pub came : Came pulled output m out script pieces script_now
   pub same : bytes_of pieces ≡ bytes

@@ -10,7 +10,7 @@ use Rattle.interview.specs.declared.fetching.Fetched.{Fetched}
 use Rattle.interview.specs.declared.fetching.Fetched.TheVariants as fetches
 use Rattle.interview.specs.declared.status.Status.{Status}
 use Rattle.interview.specs.declared.status.Status.TheVariants.{Done, DictionaryRefused, FetchFault, WriteFault, NoMemory, SavedRefused}
-use Rattle.interview.specs.Devices.{Around, SentNothing, SentPart, SentWhole, ShelfFailed, SinkFailed}
+use Rattle.interview.specs.Devices.{BeforeAfter, SentNothing, SentPart, SentWhole, ShelfFailed, SinkFailed}
 use Rattle.graph_session.specs.Refusals.{SameChecks}
 use Rattle.graph_session.specs.Rules.{Rules, rules, tree_of}
 use Rattle.answers.specs.Meaning.{answered}
@@ -143,8 +143,8 @@ RunEnds contents beginning r mode relations did status =
 
 -- what a check did to the outside
 pub record CheckDid : Type 0 where
-  pub files : Around Files
-  pub output : Around Output
+  pub files : BeforeAfter Files
+  pub output : BeforeAfter Output
 
 abbrev pub check_did : Files → Files → Output → Output → CheckDid
 check_did files files_now sink sink_now = record {

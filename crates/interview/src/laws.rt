@@ -5,7 +5,7 @@ ghost use Rattle.interview.specs.Engines.{EnginesAgree, LinesAgree, RunsAgree};
 ghost use Rattle.interview.specs.Interview.{OneEndOfCheck, OneEndOfRun};
 ghost use Rattle.interview.specs.Load.{OneEndOfGen};
 ghost use Rattle.interview.specs.Save.{OneEndOfSave};
-ghost use Rattle.interview.specs.Talk.{PiecesFollowReplies};
+ghost use Rattle.interview.specs.Exchange.{PiecesFollowReplies};
 
 use fg_io::{Shelf, Sink, Source};
 
@@ -47,14 +47,14 @@ pub fn a_save_has_one_end()
     ensures { OneEndOfSave }
 {}
 
-/// In a talk each piece of a script came behind the replies to all lines that ended before it, and none behind the end
-/// or `quit`. `pulls_follow_replies` says so of each pull, also of one that failed.
+/// In an exchange each piece of a script came behind the replies to all lines that ended before it, and none behind the
+/// end or `quit`. `pulls_follow_replies` says so of each pull, also of one that failed.
 pub fn pieces_follow_replies<S: Source<K>, K: Sink>()
     ensures { PiecesFollowReplies S.pulled K.output }
 {}
 
-/// In a talk the reply to each line is put whole before more of the script is pulled, also where that pull fails, but
-/// for lines that came in one piece with it. Nothing is pulled behind the end, or behind the piece in which `quit`
+/// In an exchange the reply to each line is put whole before more of the script is pulled, also where that pull fails,
+/// but for lines that came in one piece with it. Nothing is pulled behind the end, or behind the piece in which `quit`
 /// ended.
 pub fn pulls_follow_replies<S: Source<K>, K: Sink>()
     ensures { PullsFollowReplies S.pulled K.output }

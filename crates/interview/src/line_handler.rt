@@ -12,7 +12,7 @@ ghost use Rattle.graph_session.specs.Refusals.{SameChecks};
 ghost use Rattle.graph_session.specs.Rules.{Rules, rules};
 ghost use Rattle.interview.specs.Meanings.{IsBeginning, Meaning};
 ghost use Rattle.session_lines.specs.declared.progress.Progress.TheVariants.{Unwritten};
-ghost use Rattle.interview.specs.Telling.{LineOutputAs};
+ghost use Rattle.interview.specs.AnsweredLines.{LineOutputAs};
 
 use answers::Answers;
 use dictionary::Dictionary;

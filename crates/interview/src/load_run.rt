@@ -37,7 +37,7 @@ use text_checks::CheckTable;
 fn run_made<L: Ledger>(
     alloc: Global,
     dictionary: Dictionary,
-    table: &WatchTable,
+    relations: &WatchTable,
     script: &mut MemSource,
     out: &mut MemSink,
     blank: Blank,
@@ -46,14 +46,14 @@ fn run_made<L: Ledger>(
     requires parts { blank.parts ≡ L.parts }
     requires some { 0 < blank.parts }
     requires no_checks { dictionary.checks ≡ [] }
-    ensures ends { ScriptEnds (meaning_of (rules dictionary) Incremental (named_relations table.now) start)
+    ensures ends { ScriptEnds (meaning_of (rules dictionary) Incremental (named_relations relations.now) start)
         (script_did (input_shown script.old) (input_shown script.new) (output_shown out.old) (output_shown out.new))
         result }
 {
     let checks = CheckTable::new(alloc);
     let tables = Tables {
         checks: &checks,
-        relations: table,
+        relations,
     };
     let mut steps = Steps::<L>::new(blank);
     match WatchedSession::<Recalc>::new(alloc, dictionary) {
@@ -71,11 +71,11 @@ fn replies_to(
     alloc: Global,
     dictionary: Dictionary,
     script: Vec<u8>,
-    table: &WatchTable,
+    relations: &WatchTable,
 ) -> Result<MemSink, NoMemory>
     requires { dictionary.checks ≡ [] }
     ensures replies { IfOk result (λ sink. sink.taken
-        ≡ (defined_script (meaning_of (rules dictionary) Incremental (named_relations table.now) start)
+        ≡ (defined_script (meaning_of (rules dictionary) Incremental (named_relations relations.now) start)
         script.items).text) }
 {
     let mut source = MemSource::new(script, u32::MAX, Vec::new(alloc));
@@ -83,7 +83,7 @@ fn replies_to(
     let status = run_made::<Brand>(
         alloc,
         dictionary,
-        table,
+        relations,
         &mut source,
         &mut sink,
         Blank::new(1),
@@ -99,30 +99,30 @@ fn replies_to(
 }
 
 // The lines of the summary of the load with `n` sums.
-fn summary_of_load(alloc: Global, n: u32, table: &WatchTable) -> Result<Vec<Vec<u8>>, NoMemory>
+fn summary_of_load(alloc: Global, n: u32, relations: &WatchTable) -> Result<Vec<Vec<u8>>, NoMemory>
     requires some { 1 ≤ n }
     requires most { n ≤ 1000 }
     ensures summary { IfOk result (λ texts. (r : Rules) × IsOfLoad n r
-        × (texts_in texts.items ≡ pieces_of (gen_lines r (named_relations table.now) n))) }
+        × (texts_in texts.items ≡ pieces_of (gen_lines r (named_relations relations.now) n))) }
 {
     let made = make(alloc, n)?;
     let facts = made.dict.fact_count();
     let nodes = made.dict.node_count();
     let lines = line_count(made.script.as_slice());
-    let replies = replies_to(alloc, made.dict, made.script, table)?;
+    let replies = replies_to(alloc, made.dict, made.script, relations)?;
     summary(alloc, n, facts, nodes, lines, replies.bytes())
 }
 
 /// Makes the load with `n` sums, runs its script over its dictionary, and writes the summary of what was replied, each line
 /// as one piece.
-pub fn run_load<K: Sink>(alloc: Global, n: u32, table: &WatchTable, out: &mut K) -> Status
+pub fn run_load<K: Sink>(alloc: Global, n: u32, relations: &WatchTable, out: &mut K) -> Status
     requires some { 1 ≤ n }
     requires most { n ≤ 1000 }
-    ensures generated { GeneratedAs (named_relations table.now) n
+    ensures generated { GeneratedAs (named_relations relations.now) n
         (record { before = K.output out.old; after = K.output out.new }) result }
-    ensures puts { PutsSummary K.output (named_relations table.now) n result out.old out.new }
+    ensures puts { PutsSummary K.output (named_relations relations.now) n result out.old out.new }
 {
-    match summary_of_load(alloc, n, table) {
+    match summary_of_load(alloc, n, relations) {
         Ok(texts) => end_by_lines(out, texts.as_slice(), Status::Done),
         Err(NoMemory) => Status::NoMemory,
     }

@@ -6,7 +6,7 @@ ghost use Rattle.script_lines.specs.Lines.{HasNoNewline, ended_lines};
 ghost use Rattle.graph_session.specs.Refusals.{SameChecks};
 ghost use Rattle.interview.specs.Meanings.{IsBeginning, Meaning};
 ghost use Rattle.session_lines.specs.declared.progress.Progress.TheVariants.{Unwritten};
-ghost use Rattle.interview.specs.Telling.{PieceOutputAs};
+ghost use Rattle.interview.specs.AnsweredLines.{PieceOutputAs};
 
 use crate::line_handler::LineHandler;
 use fg_io::Sink;

@@ -7,7 +7,7 @@ ghost use Rattle.dictionary.specs.AcceptedParts.{accepted};
 ghost use Rattle.graph_session.specs.Refusals.{SameChecks};
 ghost use Rattle.graph_session.specs.Rules.{rules};
 ghost use Rattle.saved_text.specs.SavedText.{saved_lines};
-ghost use Rattle.interview.specs.Calls.{CallsForSave, MaySave, SilentTalk};
+ghost use Rattle.interview.specs.Calls.{CallsForSave, MaySave, SilentExchange};
 ghost use Rattle.interview.specs.Given.{did_by, given_with};
 ghost use Rattle.interview.specs.LastLines.{PutLinesAtEnd};
 ghost use Rattle.interview.specs.Meanings.{of_session};
@@ -65,7 +65,7 @@ fn save_session<E: FactEngine, L: Ledger, S: Source<K>, K: Sink>(
     ensures saves { ScriptSaves (rules silenced.old.handler.session.dict) (of_session (rules silenced.old.handler.session.dict)
         (open_at (state_by silenced.old.handler.session tables.now.relations.now silenced.old.handler.watches)))
         (script_did (S.input script.old) (S.input script.new) (K.output out.old) (K.output out.new)) result }
-    ensures calls { SilentTalk S.pulled K.output (rules silenced.old.handler.session.dict)
+    ensures calls { SilentExchange S.pulled K.output (rules silenced.old.handler.session.dict)
         (of_session (rules silenced.old.handler.session.dict)
         (open_at (state_by silenced.old.handler.session tables.now.relations.now silenced.old.handler.watches)))
         out.old out.new script.old script.new result }
@@ -120,25 +120,22 @@ pub fn run_and_save<H: Shelf<S, K>, S: Source<K>, K: Sink>(
     alloc: Global,
     origin: Origin<'_>,
     checks: &CheckTable,
-    table: &WatchTable,
+    relations: &WatchTable,
     shelf: &mut H,
     script: &mut S,
     out: &mut K,
 ) -> Status
     ensures ends { (words : List (List ℕ)) → IsSave words (origin_of origin.entry) → SaveEnds (given_with words
-        (named_checks checks.now) (named_relations table.now) (H.files shelf.old) (S.input script.old))
+        (named_checks checks.now) (named_relations relations.now) (H.files shelf.old) (S.input script.old))
         (did_by (H.files shelf.old) (H.files shelf.new) (S.input script.old) (S.input script.new) (K.output out.old)
         (K.output out.new)) result }
     ensures calls { (words : List (List ℕ)) → CallsForSave H.fetched S.pulled K.output (given_with words
-        (named_checks checks.now) (named_relations table.now) (H.files shelf.old) (S.input script.old))
+        (named_checks checks.now) (named_relations relations.now) (H.files shelf.old) (S.input script.old))
         (origin_of origin.entry) result shelf.old shelf.new script.old script.new out.old out.new }
 {
     match obtain(alloc, origin, checks, shelf, script, out) {
         Ok(Fetched::Accepted(dictionary)) => {
-            let tables = Tables {
-                checks,
-                relations: table,
-            };
+            let tables = Tables { checks, relations };
             save_over::<Brand, S, K>(alloc, dictionary, &tables, script, out, Blank::new(1))
         }
         Ok(Fetched::Refused(fault)) => end_by_fault(out, fault),

@@ -8,8 +8,8 @@ ghost use Rattle.interview.specs.Meanings.{IsBeginning, Meaning};
 ghost use Rattle.interview.specs.Save.{LeavesAnswers};
 ghost use Rattle.interview.specs.ScriptEnds.{ScriptEnds, ending_of, script_did};
 ghost use Rattle.interview.specs.StepsOfScript.{StepsWithin};
-ghost use Rattle.interview.specs.Talk.{TalkLeaves};
-ghost use Rattle.interview.specs.Telling.{LineOutputAs};
+ghost use Rattle.interview.specs.Exchange.{ExchangeLeaves};
+ghost use Rattle.interview.specs.AnsweredLines.{LineOutputAs};
 ghost use Rattle.interview.specs.declared.status.Status.TheVariants.{WriteFault};
 ghost use Rattle.session_lines.specs.declared.progress.Progress.TheVariants.{Unwritten};
 
@@ -85,7 +85,7 @@ pub fn run<T: LineHandler, L: Ledger, S: Source<K>, K: Sink>(
     ensures leaves { (m : Meaning) → IsBeginning m → T.means handler.old (named_relations tables.now.relations.now) m
         → LeavesAnswers m (S.input script.old).left (T.stands handler.new) result }
     ensures calls { (m : Meaning) → IsBeginning m → T.means handler.old (named_relations tables.now.relations.now) m
-        → TalkLeaves S.pulled K.output m out.old out.new script.old script.new (T.stands handler.new) result }
+        → ExchangeLeaves S.pulled K.output m out.old out.new script.old script.new (T.stands handler.new) result }
     ensures quiet { T.is_quiet ≡ true → out.new ≡ out.old }
     ensures unfailing { T.is_quiet ≡ true → result ≢ WriteFault }
     ensures same_rules { T.goes_by handler.new ≡ T.goes_by handler.old }

@@ -10,8 +10,8 @@ ghost use Rattle.fact_watch.specs.Tables.{named_relations};
 ghost use Rattle.script_lines.specs.Joined.{joined};
 ghost use Rattle.interview.specs.ScriptEnds.{script_did};
 ghost use Rattle.interview.specs.StepEnds.{Gives, RunEnds, StartEnds};
-ghost use Rattle.interview.specs.Calls.{Calls, CallsForSaved, TalksFrom, beside};
-ghost use Rattle.interview.specs.Talk.{MayBegin};
+ghost use Rattle.interview.specs.Calls.{Calls, CallsForSaved, ExchangeFrom, beside};
+ghost use Rattle.interview.specs.Exchange.{MayBegin};
 ghost use Rattle.interview.specs.Ends.{Interviewed};
 ghost use Rattle.interview.specs.Given.{did_by, given_by};
 ghost use Rattle.interview.specs.Meanings.{IsBeginning, Meaning, meaning_of};
@@ -166,7 +166,7 @@ fn run_from<H: Shelf<S, K>, S: Source<K>, K: Sink>(
         (S.input script.new) (K.output out.old) (K.output out.new)) result }
     ensures fetches { CallsForSaved (beside H.fetched script.old out.old) (beginning_of beginning.entry) (result ≡ FailedFetch)
         shelf.old shelf.new }
-    ensures pulls { TalksFrom S.pulled K.output (H.files shelf.old).contents (beginning_of beginning.entry)
+    ensures pulls { ExchangeFrom S.pulled K.output (H.files shelf.old).contents (beginning_of beginning.entry)
         (rules dictionary) mode (named_relations tables.now.relations.now) result script.old script.new out.old out.new }
 {
     match resume(
@@ -193,7 +193,7 @@ fn run_from<H: Shelf<S, K>, S: Source<K>, K: Sink>(
 }
 
 /// Does all that the program does, over the words of its command line, without the program's name. The checks are those
-/// that a dictionary may name, and the relations of the table those by which a slot may be watched.
+/// that a dictionary may name, and the relations those by which a slot may be watched.
 ///
 /// A dictionary has at most 8,388,608 bytes, a saved text and a script at most 67,108,864 each. The shelf is asked at most for a
 /// dictionary's name, once, and then, over an accepted dictionary, for that of a saved text, once. For a dictionary of the program's
@@ -202,22 +202,19 @@ pub fn interview<H: Shelf<S, K>, S: Source<K>, K: Sink>(
     alloc: Global,
     words: &[String],
     checks: &CheckTable,
-    table: &WatchTable,
+    relations: &WatchTable,
     shelf: &mut H,
     script: &mut S,
     out: &mut K,
 ) -> Status
-    ensures ends { Interviewed (given_by words.now (named_checks checks.now) (named_relations table.now)
+    ensures ends { Interviewed (given_by words.now (named_checks checks.now) (named_relations relations.now)
         (H.files shelf.old) (S.input script.old)) (did_by (H.files shelf.old) (H.files shelf.new) (S.input script.old)
         (S.input script.new) (K.output out.old) (K.output out.new)) result }
     ensures calls { Calls H.fetched S.pulled K.output (given_by words.now (named_checks checks.now)
-        (named_relations table.now) (H.files shelf.old) (S.input script.old)) result shelf.old shelf.new script.old
+        (named_relations relations.now) (H.files shelf.old) (S.input script.old)) result shelf.old shelf.new script.old
         script.new out.old out.new }
 {
-    let tables = Tables {
-        checks,
-        relations: table,
-    };
+    let tables = Tables { checks, relations };
     match form_of(words) {
         Form::Run(mode, origin, beginning) => match obtain(
             alloc, origin, checks, shelf, script, out,
@@ -229,8 +226,8 @@ pub fn interview<H: Shelf<S, K>, S: Source<K>, K: Sink>(
             Err(status) => status,
         },
         Form::Check(name) => check(alloc, name, checks, shelf, script, out),
-        Form::Gen(n) => run_load(alloc, n, table, out),
-        Form::Save(origin) => run_and_save(alloc, origin, checks, table, shelf, script, out),
+        Form::Gen(n) => run_load(alloc, n, relations, out),
+        Form::Save(origin) => run_and_save(alloc, origin, checks, relations, shelf, script, out),
         Form::Unknown => end_by(out, b"usage: interview COMMAND ARGUMENTS\n", Status::Usage),
     }
 }

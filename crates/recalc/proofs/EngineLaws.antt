@@ -23,7 +23,7 @@ use Rattle.visit_counts.specs.SlotVisits.{slot_visits, touched_visits}
 use Rattle.recalc.specs.BetweenAnswers.{between, results_before}
 use Rattle.recalc.specs.Marking.{IsMarked}
 use Rattle.recalc.specs.Replacing.{entries, slots_of}
-use Rattle.recalc.specs.Running.{AreCells, AreRanked, AreWaiting, propagation_visits, propagation_weight, HasRun, IsPropagation, IsRunning, is_that, live_results, Setting, slots_done, stamped_cell, waits_in}
+use Rattle.recalc.specs.Running.{AreCells, AreRanked, AreWaiting, propagation_visits, propagation_weight, HasRun, IsPropagation, IsRunning, is_that, live_results, ChangeSetting, slots_done, stamped_cell, waits_in}
 use Rattle.recalc.specs.Spread.{is_in, Spread}
 use Rattle.recalc.specs.EngineInvariant.{results_of, setting_from, stamp_in, without_gone}
 use Rattle.dirty_slots.specs.Waiting.{Queue}
@@ -44,7 +44,7 @@ no_results (Some c) h = absurd (cc)
 
 -- ---- where nothing is done yet
 
-begins : (k : Setting) (c : Spread) (state : EngineState) → entries state.log ≡ [] → IsMarked c [] (waits_in k.dict state.queue) → AreRanked k.dict state.queue
+begins : (k : ChangeSetting) (c : Spread) (state : EngineState) → entries state.log ≡ [] → IsMarked c [] (waits_in k.dict state.queue) → AreRanked k.dict state.queue
     → IsRunning k c state.store.cells state
 begins k c state none marked ranked = record {
   marked = subst (λ (log : List Replaced). IsMarked c (slots_of log) (waits_in k.dict state.queue)) (sym none) marked;

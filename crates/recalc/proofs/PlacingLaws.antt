@@ -28,7 +28,7 @@ use Rattle.dirty_slots.specs.declared.dirty_slot.DirtySlot.{DirtySlot}
 use Rattle.dirty_slots.proofs.MarkLaws.{is_of_slot, place_within}
 use Rattle.recalc.specs.PlacedReaders.{AllArePlaced, ArePlaced, global_slot, IsGlobal, IsPlaced}
 use Rattle.recalc.specs.Readers.{marks_at, reads_at}
-use Rattle.recalc.specs.Running.{let_by, let_by_all, live_results_in, Setting, shielded_in}
+use Rattle.recalc.specs.Running.{let_by, let_by_all, live_results_in, ChangeSetting, shielded_in}
 use Rattle.recalc.specs.declared.placed_readers.PlacedReaders.{PlacedReaders}
 
 -- ---- one more reader has its place
@@ -93,7 +93,7 @@ reads_all true h m e global = refl
 reads_all false h m e global = ap (λ n. nat_eq n 0) (global (same_number h 0 e)) ∙ equal_number 0
 
 -- where the answers aren't extended, the readers let the same slots wait by their places
-module _ (k : Setting) (cells : Cells) (s : Slot) (q : DirtySlot) (unextended : k.extended ≡ false) (global : home k.dict.tree s.fact ≡ 0 → s.member ≡ 0) where
+module _ (k : ChangeSetting) (cells : Cells) (s : Slot) (q : DirtySlot) (unextended : k.extended ≡ false) (global : home k.dict.tree s.fact ≡ 0 → s.member ≡ 0) where
   one_lets : (r : ReaderOf) → IsGlobal k.dict s.fact r → let_by k cells s q r ≡ dirty_same q (global_slot k.dict r)
   one_lets r is =
       ap (λ h. list_any (marks_at (shielded_in k cells) s r (rank k.dict r.fact) q) (if nat_eq h 0 then 0 ∷ [] else list_of k.now h)) is.global

@@ -25,7 +25,7 @@ use Rattle.recalc.specs.Marking.{IsLeast, IsMarked, IsNext}
 use Rattle.recalc.specs.Transitions.{AreResults, is_shielded, moves}
 use Rattle.recalc.specs.Readers.{dirty_of, marks}
 use Rattle.recalc.specs.Replacing.{entries, slots_of}
-use Rattle.recalc.specs.Running.{AreCells, propagation_visits, propagation_weight, HasTurned, IsPropagation, IsPopped, IsRunning, is_that, marks_now, live_results_in, Setting, slot_of, slots_done, stamped_cell, waits_in}
+use Rattle.recalc.specs.Running.{AreCells, propagation_visits, propagation_weight, HasTurned, IsPropagation, IsPopped, IsRunning, is_that, marks_now, live_results_in, ChangeSetting, slot_of, slots_done, stamped_cell, waits_in}
 use Rattle.recalc.specs.Spread.{is_in, Spread}
 use Rattle.dirty_slots.specs.Waiting.{dirty_same, Queue, waits}
 use Rattle.recalc.specs.declared.log.Replaced.{Replaced}
@@ -65,7 +65,7 @@ pushed w ss s =
     let f : sum_by w (s ∷ []) ≡ w s + 0 = sum_by-cons w s [] in
     omega (arith, e, f)
 
-module _ (k : Setting) (c : Spread) (first : Cells) (propagation : IsPropagation k c first) (state : EngineState) (run : IsRunning k c first state) where
+module _ (k : ChangeSetting) (c : Spread) (first : Cells) (propagation : IsPropagation k c first) (state : EngineState) (run : IsRunning k c first state) where
   stands_done : (s : Slot) → IsTrue (is_in (slots_done state) s) → IsTrue (stands k.dict.tree k.now s)
   stands_done s i = sym (propagation.transition.there s) ∙ (run.marked.right s i).0
 

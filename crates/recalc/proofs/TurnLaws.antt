@@ -9,7 +9,7 @@ use Rattle.cell_store.specs.declared.cell.Cell.{Cell}
 use Rattle.dep_index.specs.declared.readers_of.ReaderOf.{ReaderOf}
 use Rattle.dict_meaning.specs.Plain.{plain}
 use Rattle.recalc.specs.Replacing.{entries}
-use Rattle.recalc.specs.Running.{HasTurned, is_that, let_by_all, live_results, live_results_in, Setting, stamped_cell}
+use Rattle.recalc.specs.Running.{HasTurned, is_that, let_by_all, live_results, live_results_in, ChangeSetting, stamped_cell}
 use Rattle.recalc.specs.Transitions.{moves}
 use Rattle.dirty_slots.specs.Waiting.{waits}
 use Rattle.dirty_slots.specs.declared.dirty_slot.DirtySlot.{DirtySlot}
@@ -23,7 +23,7 @@ moves_live gone cells s r live = ap (λ (b : Bool). moves (if b then None else o
     at None = refl
     at (Some c) = refl
 
-pub has_turned : (k : Setting) (rs : List ReaderOf) (s : Slot) (old new : EngineState) (r : Res) (moved : Bool)
+pub has_turned : (k : ChangeSetting) (rs : List ReaderOf) (s : Slot) (old new : EngineState) (r : Res) (moved : Bool)
     → Some r ≡ plain k.dict k.now s → is_that k.gone s.member ≡ false
     → new.store.cells ≡ finite.insert old.store.cells s (record { res = r; stamp = k.stamp })
     → entries new.log ≡ entries old.log ++ record { slot = s; cell = finite.get old.store.cells s } ∷ []

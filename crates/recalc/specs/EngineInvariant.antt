@@ -16,7 +16,7 @@ use Rattle.dictionary.specs.Engines.{Marks}
 use Rattle.dict_meaning.specs.Undone.{is_extended}
 use Rattle.recalc.specs.PlacedReaders.{AllArePlaced}
 use Rattle.recalc.specs.Replacing.{entries}
-use Rattle.recalc.specs.Running.{Setting}
+use Rattle.recalc.specs.Running.{ChangeSetting}
 use Rattle.dirty_slots.specs.Waiting.{waits}
 use Rattle.recalc.specs.declared.dependency_graph.DependencyGraph.{DependencyGraph}
 use Rattle.dirty_slots.specs.declared.dirty_slot.DirtySlot.{DirtySlot}
@@ -59,7 +59,7 @@ without_gone cells (Some member) facts s = without_member cells member facts s
 
 -- ---- the loop's setting at a change
 
-abbrev pub setting_from : Accepted → Change → Answered → Option ℕ → ℕ → Setting
+abbrev pub setting_from : Accepted → Change → Answered → Option ℕ → ℕ → ChangeSetting
 setting_from d undo now gone stamp = record { dict = d; now = now; extended = is_extended undo now; gone = gone; stamp = stamp }
 
 -- ---- what is counted

@@ -3,11 +3,11 @@ use Rattle.answers.specs.Change.{applied}
 use Rattle.answers.specs.Meaning.{answered, change}
 use Rattle.dictionary.specs.AcceptedParts.{accepted}
 use Rattle.recalc.specs.BetweenAnswers.{between}
-use Rattle.recalc.specs.Running.{Setting}
+use Rattle.recalc.specs.Running.{ChangeSetting}
 use Rattle.recalc.specs.Spread.{Spread}
 use Rattle.recalc.specs.declared.propagation.Propagation.{Propagation}
 
-abbrev pub setting_of : Propagation → Setting
+abbrev pub setting_of : Propagation → ChangeSetting
 setting_of k = record {
   dict = accepted k.dict.now;
   now = answered k.answers.now;

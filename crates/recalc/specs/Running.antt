@@ -70,18 +70,18 @@ AreCells d b stamp first done cells =
 -- ---- the loop
 
 -- what doesn't change in it: to which answers it leads, whether they extend those before, which member went, and the stamp
-pub record Setting : Type 0 where
+pub record ChangeSetting : Type 0 where
   pub dict : Accepted
   pub now : Answered
   pub extended : Bool
   pub gone : Option ℕ
   pub stamp : ℕ
 
-abbrev pub live_results_in : Setting → Cells → Results
+abbrev pub live_results_in : ChangeSetting → Cells → Results
 live_results_in k cells = live_results k.gone cells
 
 -- the change spreads so from the results of these cells, and no slot that stands is of the member that went
-pub record IsPropagation (k : Setting) (c : Spread) (first : Cells) : Type 0 where
+pub record IsPropagation (k : ChangeSetting) (c : Spread) (first : Cells) : Type 0 where
   pub names : List (List ℕ)
   pub accepted : IsAccepted names k.dict
   pub transition : IsTransition k.dict k.now k.extended (live_results_in k first) c
@@ -92,44 +92,44 @@ abbrev pub slots_done : EngineState → List Slot
 slots_done w = slots_of (entries w.log)
 
 -- what the loop keeps
-pub record IsRunning (k : Setting) (c : Spread) (first : Cells) (w : EngineState) : Type 0 where
+pub record IsRunning (k : ChangeSetting) (c : Spread) (first : Cells) (w : EngineState) : Type 0 where
   pub marked : IsMarked c (slots_done w) (waits_in k.dict w.queue)
   pub ranked : AreRanked k.dict w.queue
   pub kept : AreCells k.dict k.now k.stamp first (slots_done w) w.store.cells
 
 -- the cells with the slot's new result
-abbrev pub put_now : Setting → Cells → Slot → Cells
+abbrev pub put_now : ChangeSetting → Cells → Slot → Cells
 put_now k cells s = put_at cells s (option_map (stamped_cell k.stamp) (plain k.dict k.now s))
 
 -- what all that the change touches weighs, and the nodes that its evaluation visits
-abbrev pub propagation_weight : Setting → Spread → ℕ
+abbrev pub propagation_weight : ChangeSetting → Spread → ℕ
 propagation_weight k c = sum_by (slot_weight k.dict k.now) (touched_of c)
 
-abbrev pub propagation_visits : Setting → Spread → ℕ
+abbrev pub propagation_visits : ChangeSetting → Spread → ℕ
 propagation_visits k c = sum_by (slot_visits k.dict k.now) (touched_of c)
 
 -- the slots that are shielded, and which slots a reader or all of these let wait
-abbrev pub shielded_in : Setting → Cells → Slot → Bool
+abbrev pub shielded_in : ChangeSetting → Cells → Slot → Bool
 shielded_in k cells = is_shielded k.extended k.dict k.now (live_results_in k cells)
 
-abbrev pub let_by : Setting → Cells → Slot → DirtySlot → ReaderOf → Bool
+abbrev pub let_by : ChangeSetting → Cells → Slot → DirtySlot → ReaderOf → Bool
 let_by k cells s q r = marks_of k.dict k.now (shielded_in k cells) s q r
 
-abbrev pub let_by_all : Setting → Cells → Slot → List ReaderOf → DirtySlot → Bool
+abbrev pub let_by_all : ChangeSetting → Cells → Slot → List ReaderOf → DirtySlot → Bool
 let_by_all k cells s rs q = marks k.dict k.now (shielded_in k cells) s rs q
 
 -- if the slot moved
-abbrev pub marks_now : Setting → List ReaderOf → Cells → Cells → Slot → DirtySlot → Bool
+abbrev pub marks_now : ChangeSetting → List ReaderOf → Cells → Cells → Slot → DirtySlot → Bool
 marks_now k rs old new s q = moves (live_results_in k old s) (plain k.dict k.now s) && let_by_all k new s rs q
 
 -- what a turn does: it puts the slot's new result, and lets the readers wait
-pub record HasTurned (k : Setting) (rs : List ReaderOf) (s : Slot) (w w' : EngineState) : Type 0 where
+pub record HasTurned (k : ChangeSetting) (rs : List ReaderOf) (s : Slot) (w w' : EngineState) : Type 0 where
   pub put : w'.store.cells ≡ put_now k w.store.cells s
   pub kept : entries w'.log ≡ entries w.log ++ record { slot = s; cell = finite.get w.store.cells s } ∷ []
   pub marked : (q : DirtySlot) → waits w'.queue q ≡ (waits w.queue q || marks_now k rs w.store.cells w'.store.cells s q)
 
 -- what it leaves: nothing waits, and all results are new
-pub record HasRun (k : Setting) (c : Spread) (first : Cells) (w : EngineState) : Type 0 where
+pub record HasRun (k : ChangeSetting) (c : Spread) (first : Cells) (w : EngineState) : Type 0 where
   pub running : IsRunning k c first w
   pub none : (q : DirtySlot) → waits w.queue q ≡ false
   pub results : (s : Slot) → live_results_in k w.store.cells s ≡ plain k.dict k.now s

@@ -12,7 +12,7 @@ use Rattle.dictionary.specs.AcceptedParts.{accepted}
 use Rattle.dict_meaning.specs.Undone.{IsUndone, went}
 use Rattle.recalc.specs.BetweenAnswers.{between}
 use Rattle.recalc.specs.EngineInvariant.{setting_from, stamp_in}
-use Rattle.recalc.specs.Running.{Setting, is_that}
+use Rattle.recalc.specs.Running.{ChangeSetting, is_that}
 use Rattle.recalc.specs.Spread.{Spread}
 use Rattle.recalc.specs.declared.update.Update.{Update}
 
@@ -34,7 +34,7 @@ pub record IsUpdate (u : Update) : Type 0 where
   pub undone : IsUndone (dict_of u) (undo_of u) (answers_after u)
   pub gone : (m : ℕ) → is_that u.gone m ≡ went (undo_of u) (answers_after u) m
 
-abbrev pub update_setting : Update → Setting
+abbrev pub update_setting : Update → ChangeSetting
 update_setting u = setting_from (dict_of u) (undo_of u) (answers_after u) u.gone u.stamp
 
 abbrev pub update_spread : Update → Spread

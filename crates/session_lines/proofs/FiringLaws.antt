@@ -6,7 +6,7 @@ use Rattle.dictionary.specs.AcceptedParts.{Named}
 use Rattle.evaluation.specs.Results.{Results}
 use Rattle.three_state.specs.declared.res.Res.{Res}
 use Rattle.fact_watch.specs.Says.{slot_says}
-use Rattle.fact_watch.specs.Watching.{Pair, code_at, pair_says}
+use Rattle.fact_watch.specs.Watching.{Watch, code_at, says_of_watch}
 use Rattle.session_lines.specs.Firing.{firing, firing_lines, firing_lines_at, name_at, watch_line}
 
 -- ---- a table as its list of names and codes
@@ -40,31 +40,31 @@ module _ {R : Type 0} (name : R → List ℕ) (code : R → ℕ) where
       none (Some r) None = refl
       none (Some r) (Some s) = refl
 
-  -- of a pair
-  says_same : (rs : List R) (o : Option Pair) (before after : Results) → pair_says (code_at (λ (r : Named). r.1) (named rs)) o before after ≡ pair_says (code_at code rs) o before after
+  -- of a watch
+  says_same : (rs : List R) (o : Option Watch) (before after : Results) → says_of_watch (code_at (λ (r : Named). r.1) (named rs)) o before after ≡ says_of_watch (code_at code rs) o before after
   says_same rs None before after = refl
   says_same rs (Some p) before after = ap (λ (n : ℕ). slot_says n (before p.1) (after p.1)) (code_same rs p.0)
 
 -- the same, of the list that comes first
-pub says_by_names : {R : Type 0} (rs : List R) (name : R → List ℕ) (code : R → ℕ) (o : Option Pair) (before after : Results)
-    → pair_says (code_at (λ (r : Named). r.1) (map {B = List ℕ × ℕ} (λ r. (name r, code r)) rs)) o before after ≡ pair_says (code_at code rs) o before after
+pub says_by_names : {R : Type 0} (rs : List R) (name : R → List ℕ) (code : R → ℕ) (o : Option Watch) (before after : Results)
+    → says_of_watch (code_at (λ (r : Named). r.1) (map {B = List ℕ × ℕ} (λ r. (name r, code r)) rs)) o before after ≡ says_of_watch (code_at code rs) o before after
 says_by_names rs name code o before after = says_same name code rs o before after
 
--- a pair of no place says nothing
-pub unplaced : {R : Type 0} (rs : List R) (name : R → List ℕ) (code : R → ℕ) (o : Option Pair) (p : Pair) → o ≡ Some p → length rs ≤ p.0 → (before after : Results)
-    → pair_says (code_at (λ (r : Named). r.1) (map {B = List ℕ × ℕ} (λ r. (name r, code r)) rs)) o before after ≡ false
+-- a watch by no place of the table says nothing
+pub unplaced : {R : Type 0} (rs : List R) (name : R → List ℕ) (code : R → ℕ) (o : Option Watch) (p : Watch) → o ≡ Some p → length rs ≤ p.0 → (before after : Results)
+    → says_of_watch (code_at (λ (r : Named). r.1) (map {B = List ℕ × ℕ} (λ r. (name r, code r)) rs)) o before after ≡ false
 unplaced rs name code o p e past before after =
     says_same name code rs o before after
-    ∙ ap (λ (q : Option Pair). pair_says (code_at code rs) q before after) e
+    ∙ ap (λ (q : Option Watch). says_of_watch (code_at code rs) q before after) e
     ∙ nothing_says name code rs p.0 (before p.1) (after p.1) past
 
 -- ---- the lines one behind another
 
 module _ (d : Tree) (relations : List Named) (before after : Results) where
-  abbrev text : List Pair → List (List ℕ)
-  text pairs = firing_lines d relations before after pairs
+  abbrev text : List Watch → List (List ℕ)
+  text watched = firing_lines d relations before after watched
 
-  lines_cons : (p : Pair) (ps : List Pair) → text (p ∷ ps) ≡ text (p ∷ []) ++ text ps
+  lines_cons : (p : Watch) (ps : List Watch) → text (p ∷ ps) ≡ text (p ∷ []) ++ text ps
   lines_cons p ps = by (slot_says (code_at (λ (r : Named). r.1) relations p.0) (before p.1) (after p.1))
     where
       by : (b : Bool) → map (watch_line d relations) (cond b (p ∷ firing relations before after ps) (firing relations before after ps))
@@ -72,18 +72,18 @@ module _ (d : Tree) (relations : List Named) (before after : Results) where
       by true = refl
       by false = refl
 
-  at_place : (n : ℕ) (pairs : List Pair) → n < length pairs → text (drop n pairs) ≡ firing_lines_at d relations before after (slice_get pairs n) ++ text (drop (suc n) pairs)
+  at_place : (n : ℕ) (watched : List Watch) → n < length watched → text (drop n watched) ≡ firing_lines_at d relations before after (slice_get watched n) ++ text (drop (suc n) watched)
   at_place n [] low = absurd (omega (arith, low))
   at_place zero (p ∷ ps) low = lines_cons p ps
   at_place (suc n) (p ∷ ps) low = at_place n ps (omega (arith, low))
 
   -- the one at n, and those behind it
-  pub lines_at : (n : ℕ) (pairs : List Pair) → n < length pairs → text (drop n pairs) ≡ firing_lines_at d relations before after (slice_get pairs n) ++ text (drop (n + 1) pairs)
-  lines_at n pairs low =
+  pub lines_at : (n : ℕ) (watched : List Watch) → n < length watched → text (drop n watched) ≡ firing_lines_at d relations before after (slice_get watched n) ++ text (drop (n + 1) watched)
+  lines_at n watched low =
       let next : suc n ≡ n + 1 = omega arith in
-      at_place n pairs low ∙ ap (λ (k : ℕ). firing_lines_at d relations before after (slice_get pairs n) ++ text (drop k pairs)) next
+      at_place n watched low ∙ ap (λ (k : ℕ). firing_lines_at d relations before after (slice_get watched n) ++ text (drop k watched)) next
 
-  pub lines_end : (n : ℕ) (pairs : List Pair) → length pairs ≤ n → text (drop n pairs) ≡ []
+  pub lines_end : (n : ℕ) (watched : List Watch) → length watched ≤ n → text (drop n watched) ≡ []
   lines_end n [] past = at n
     where
       at : (n : ℕ) → text (drop n []) ≡ []
@@ -92,15 +92,15 @@ module _ (d : Tree) (relations : List Named) (before after : Results) where
   lines_end zero (p ∷ ps) past = absurd (omega (arith, past))
   lines_end (suc n) (p ∷ ps) past = lines_end n ps (omega (arith, past))
 
-  -- of one pair: its line where its relation says yes, and else none
-  pub line_said : (o : Option Pair) (p : Pair) → o ≡ Some p → pair_says (code_at (λ (r : Named). r.1) relations) o before after ≡ true → firing_lines_at d relations before after o ≡ watch_line d relations p ∷ []
+  -- of one watch: its line where its relation says yes, and else none
+  pub line_said : (o : Option Watch) (p : Watch) → o ≡ Some p → says_of_watch (code_at (λ (r : Named). r.1) relations) o before after ≡ true → firing_lines_at d relations before after o ≡ watch_line d relations p ∷ []
   line_said None p e says = absurd cc
   line_said (Some q) p e says =
       ap (λ (b : Bool). map (watch_line d relations) (cond b (q ∷ []) [])) says
-      ∙ ap (λ (o : Option Pair). watch_line d relations (unwrap_or o q) ∷ []) e
+      ∙ ap (λ (o : Option Watch). watch_line d relations (unwrap_or o q) ∷ []) e
 
   -- and a slot of which it says yes has a result
-  pub said_stands : (p : Pair) → pair_says (code_at (λ (r : Named). r.1) relations) (Some p) before after ≡ true → (r : Res) × (after p.1 ≡ Some r)
+  pub said_stands : (p : Watch) → says_of_watch (code_at (λ (r : Named). r.1) relations) (Some p) before after ≡ true → (r : Res) × (after p.1 ≡ Some r)
   said_stands p says = at (before p.1) (after p.1) refl says
     where
       at : (old new : Option Res) → after p.1 ≡ new → slot_says (code_at (λ (r : Named). r.1) relations p.0) old new ≡ true → (r : Res) × (after p.1 ≡ Some r)

@@ -1,11 +1,11 @@
 -- Lines with a mark before each.
 use Rattle.std.proofs.Common.{◌≡◌, ℕ, List, [], ◌∷◌, map, refl, ap}
 use Rattle.session_lines.specs.Marks.{marked, marked_lines}
-use Rattle.session_lines.specs.declared.mark.Mark.{Mark}
-use Rattle.session_lines.specs.declared.mark.Mark.TheVariants.{Unmarked}
+use Rattle.session_lines.specs.declared.mark.PartyMark.{PartyMark}
+use Rattle.session_lines.specs.declared.mark.PartyMark.TheVariants.{Unmarked}
 
 -- of each element of a list one line
-pub marked_each : {X : Type 0} (mark : Mark) (f : X → List ℕ) (xs : List X) → map (λ x. marked mark (f x)) xs ≡ marked_lines mark (map f xs)
+pub marked_each : {X : Type 0} (mark : PartyMark) (f : X → List ℕ) (xs : List X) → map (λ x. marked mark (f x)) xs ≡ marked_lines mark (map f xs)
 marked_each mark f [] = refl
 marked_each mark f (x ∷ xs) = ap (λ (l : List (List ℕ)). marked mark (f x) ∷ l) (marked_each mark f xs)
 

@@ -6,7 +6,7 @@ use Rattle.std.specs.Str.{bytes_eq}
 use Rattle.text_checks.specs.Places.{place_of}
 use Rattle.dictionary.specs.AcceptedParts.{Named}
 use Rattle.fact_watch.specs.Refusals.{Refused}
-use Rattle.fact_watch.specs.Watching.{Pair}
+use Rattle.fact_watch.specs.Watching.{Watch}
 use Rattle.fact_watch.specs.declared.commands.WatchRefusal.{WatchRefusal}
 use Rattle.fact_watch.specs.declared.commands.WatchRefusal.TheVariants as watches
 use Rattle.fg_io.specs.Outside.{Output}
@@ -38,31 +38,31 @@ refused_is watches.WatchThere o refused known = refused
 refused_is watches.WatchesFull o refused known = refused
 refused_is watches.NotWatched o refused known = refused
 
-module _ (sink sink_now : Output) (s : LineState) (pairs : List Pair) (now : List Pair) (progress : Progress) where
+module _ (sink sink_now : Output) (s : LineState) (watched : List Watch) (now : List Watch) (progress : Progress) where
   -- what was decided
-  pub allowed_steps : (o : Option WatchRefusal) → o ≡ None → now ≡ pairs → WrittenAs sink sink_now (codes "ok" ∷ []) progress
-      → SteppedAs sink sink_now (watch_decided s pairs o) (record s { watched = now }) progress
+  pub allowed_steps : (o : Option WatchRefusal) → o ≡ None → now ≡ watched → WrittenAs sink sink_now (codes "ok" ∷ []) progress
+      → SteppedAs sink sink_now (watch_decided s watched o) (record s { watched = now }) progress
   allowed_steps o none same written =
-      subst (λ (p : Option WatchRefusal). SteppedAs sink sink_now (watch_decided s pairs p) (record s { watched = now }) progress) (sym none)
-      (subst (λ (ps : List Pair). SteppedAs sink sink_now (watch_decided s pairs None) (record s { watched = ps }) progress) (sym same)
-      (text_step sink sink_now (codes "ok" ∷ []) (record s { watched = pairs }) progress written))
+      subst (λ (p : Option WatchRefusal). SteppedAs sink sink_now (watch_decided s watched p) (record s { watched = now }) progress) (sym none)
+      (subst (λ (ps : List Watch). SteppedAs sink sink_now (watch_decided s watched None) (record s { watched = ps }) progress) (sym same)
+      (text_step sink sink_now (codes "ok" ∷ []) (record s { watched = watched }) progress written))
 
   pub refused_steps : (o : Option WatchRefusal) (refusal : WatchRefusal) → Refused refusal o → now ≡ s.watched → WatchRefusedAs sink sink_now refusal progress
-      → SteppedAs sink sink_now (watch_decided s pairs o) (record s { watched = now }) progress
+      → SteppedAs sink sink_now (watch_decided s watched o) (record s { watched = now }) progress
   refused_steps o refusal refused same written =
-      subst (λ (ps : List Pair). SteppedAs sink sink_now (watch_decided s pairs o) (record s { watched = ps }) progress) (sym same)
-      (ends_or_steps sink sink_now (watch_decided s pairs o) s (watch_refusal_text refusal) (is_watch_memory refusal) progress
-      (λ known. ap (watch_decided s pairs) (refused_is refusal o refused known)) written)
+      subst (λ (ps : List Watch). SteppedAs sink sink_now (watch_decided s watched o) (record s { watched = ps }) progress) (sym same)
+      (ends_or_steps sink sink_now (watch_decided s watched o) s (watch_refusal_text refusal) (is_watch_memory refusal) progress
+      (λ known. ap (watch_decided s watched) (refused_is refusal o refused known)) written)
 
   -- and what stands behind it
-  pub allowed_keeps : (o : Option WatchRefusal) → o ≡ None → now ≡ pairs → WrittenAs sink sink_now (codes "ok" ∷ []) progress
-      → KeptAs (watch_decided s pairs o).state s (record s { watched = now }) progress
+  pub allowed_keeps : (o : Option WatchRefusal) → o ≡ None → now ≡ watched → WrittenAs sink sink_now (codes "ok" ∷ []) progress
+      → KeptAs (watch_decided s watched o).state s (record s { watched = now }) progress
   allowed_keeps o none same written =
-      keeps_written sink sink_now s (record s { watched = now }) (watch_decided s pairs o).state (codes "ok" ∷ []) progress
-      (ap (λ (p : Option WatchRefusal). (watch_decided s pairs p).state) none ∙ ap (λ (ps : List Pair). open_at (record s { watched = ps })) (sym same)) written
+      keeps_written sink sink_now s (record s { watched = now }) (watch_decided s watched o).state (codes "ok" ∷ []) progress
+      (ap (λ (p : Option WatchRefusal). (watch_decided s watched p).state) none ∙ ap (λ (ps : List Watch). open_at (record s { watched = ps })) (sym same)) written
 
   pub refused_keeps : (o : Option WatchRefusal) (refusal : WatchRefusal) → Refused refusal o → now ≡ s.watched → WatchRefusedAs sink sink_now refusal progress
-      → KeptAs (watch_decided s pairs o).state s (record s { watched = now }) progress
+      → KeptAs (watch_decided s watched o).state s (record s { watched = now }) progress
   refused_keeps o refusal refused same written =
-      keeps_refused sink sink_now s (record s { watched = now }) (watch_decided s pairs o).state (watch_refusal_text refusal ∷ []) (is_watch_memory refusal) progress (ap (λ (ps : List Pair). record s { watched = ps }) same)
-      (λ known. ap (λ (p : Option WatchRefusal). (watch_decided s pairs p).state) (refused_is refusal o refused known)) written
+      keeps_refused sink sink_now s (record s { watched = now }) (watch_decided s watched o).state (watch_refusal_text refusal ∷ []) (is_watch_memory refusal) progress (ap (λ (ps : List Watch). record s { watched = ps }) same)
+      (λ known. ap (λ (p : Option WatchRefusal). (watch_decided s watched p).state) (refused_is refusal o refused known)) written

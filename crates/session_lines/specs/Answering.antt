@@ -11,7 +11,7 @@ use Rattle.dictionary.specs.AcceptedParts.{Named, accepted}
 use Rattle.evaluation.specs.Results.{Results}
 use Rattle.dict_meaning.specs.Plain.{plain}
 use Rattle.fact_watch.specs.Tables.{named_relations}
-use Rattle.fact_watch.specs.Watching.{Pair, Watching}
+use Rattle.fact_watch.specs.Watching.{Watch, Watching}
 use Rattle.fact_watch.specs.declared.relation.WatchTable.{WatchTable}
 use Rattle.fact_watch.specs.declared.commands.WatchRefusal.{WatchRefusal}
 use Rattle.graph_session.specs.declared.reply.Refusal.{Refusal}
@@ -23,7 +23,7 @@ use Rattle.session_lines.specs.Writing.{WroteLines, WroteSome}
 
 -- where the session stands, with these relations and watches
 abbrev pub line_state_of : SessionView → List Named → Watching → LineState
-line_state_of session relations watches = record { session_state = session_state session; relations = relations; watched = watches.pairs }
+line_state_of session relations watches = record { session_state = session_state session; relations = relations; watched = watches.watched }
 
 -- with the relations of a table
 abbrev pub state_by : {X : Type 0} {F : X → Type 0} {M : _} → SessionView → WatchTable X F M → Watching → LineState
@@ -34,9 +34,9 @@ abbrev pub replied : SessionView → Reply → List ℕ
 replied session reply = reply_text (rules session.dict) (session_state session) reply
 
 -- and behind it the watches that fire, where what is watched had these results before
-abbrev pub replied_and_fired : SessionView → List Named → Results → List Pair → Reply → List (List ℕ)
-replied_and_fired session relations before pairs reply =
-    replied session reply ∷ firing_lines (accepted session.dict).tree relations before (plain (accepted session.dict) session.timeline.now) pairs
+abbrev pub replied_and_fired : SessionView → List Named → Results → List Watch → Reply → List (List ℕ)
+replied_and_fired session relations before watched reply =
+    replied session reply ∷ firing_lines (accepted session.dict).tree relations before (plain (accepted session.dict) session.timeline.now) watched
 
 -- A step was taken: its lines were written whole and the script goes on or is over, or they weren't written whole, or there was no
 -- memory for it, and nothing was put.

@@ -21,20 +21,20 @@ use Rattle.graph_session.specs.Step as session
 use Rattle.graph_session.specs.Step.{is_change}
 use Rattle.graph_session.specs.declared.reply.Refusal.{Refusal}
 use Rattle.graph_session.specs.declared.reply.Reply.{Reply}
-use Rattle.fact_watch.specs.Refusals.{pair_of, unwatch_refusal, watch_refusal}
-use Rattle.fact_watch.specs.Watching.{Pair, without}
+use Rattle.fact_watch.specs.Refusals.{unwatch_refusal, watch_of, watch_refusal}
+use Rattle.fact_watch.specs.Watching.{Watch, without}
 use Rattle.fact_watch.specs.declared.commands.WatchRefusal.{WatchRefusal}
 use Rattle.session_lines.specs.Firing.{firing_lines}
 use Rattle.session_lines.specs.Replies.{bad_line_text, long_line_text, missing_output, refusal_text, reply_text, watch_refusal_text}
 
 -- ---- where a script stands
 
--- the state of the session, and its watches: the relations by which a slot may be watched, by name and code, and the pairs of a
--- relation's place and a slot that are watched, in the order in which they were put
+-- the state of the session, and its watches: the relations by which a slot may be watched, by name and code, and the watches, in
+-- the order in which they were put
 pub record LineState : Type 0 where
   pub session_state : SessionState
   pub relations : List Named
-  pub watched : List Pair
+  pub watched : List Watch
 
 -- and whether the script has been quit
 pub record State : Type 0 where
@@ -93,20 +93,20 @@ abbrev pub place_in : List Named → List ℕ → Option ℕ
 place_in relations name = place_of relations (λ (n : Named). n.0) name
 
 -- these are watched from now on, or the refusal is told
-abbrev pub watch_decided : LineState → List Pair → Option WatchRefusal → Step
-watch_decided s pairs None = record { lines = codes "ok" ∷ []; state = open_at (record s { watched = pairs }) }
-watch_decided s pairs (Some refusal) = step_writing s (watch_refusal_text refusal)
+abbrev pub watch_decided : LineState → List Watch → Option WatchRefusal → Step
+watch_decided s watched None = record { lines = codes "ok" ∷ []; state = open_at (record s { watched = watched }) }
+watch_decided s watched (Some refusal) = step_writing s (watch_refusal_text refusal)
 
 abbrev pub put_watch : LineState → List ℕ → Result Slot Refusal → Step
 put_watch s name (Ok slot) =
     let place = place_in s.relations name in
-    watch_decided s (s.watched ++ pair_of place slot ∷ []) (watch_refusal place s.watched slot)
+    watch_decided s (s.watched ++ watch_of place slot ∷ []) (watch_refusal place s.watched slot)
 put_watch s name (Err refusal) = step_writing s (refusal_text refusal)
 
 abbrev pub cut_watch : LineState → List ℕ → Result Slot Refusal → Step
 cut_watch s name (Ok slot) =
     let place = place_in s.relations name in
-    watch_decided s (without (pair_of place slot) s.watched) (unwatch_refusal place s.watched slot)
+    watch_decided s (without (watch_of place slot) s.watched) (unwatch_refusal place s.watched slot)
 cut_watch s name (Err refusal) = step_writing s (refusal_text refusal)
 
 -- ---- one command
@@ -158,14 +158,14 @@ state_after r state (line ∷ lines) = state_after r (step r state line).state l
 
 -- how a script begins: with which answers, whether changes are numbered and stamps kept, and by which relations slots may be
 -- watched
-pub record Terms : Type 0 where
+pub record ScriptStart : Type 0 where
   pub answers : Answered
   pub stamps : Bool
   pub relations : List Named
 
 -- no change was made, and nothing is watched
-abbrev pub beginning : Rules → Terms → LineState
-beginning r terms = record { session_state = begun r.accepted terms.answers terms.stamps; relations = terms.relations; watched = [] }
+abbrev pub beginning : Rules → ScriptStart → LineState
+beginning r start = record { session_state = begun r.accepted start.answers start.stamps; relations = start.relations; watched = [] }
 
-abbrev pub at_start : Rules → Terms → State
-at_start r terms = open_at (beginning r terms)
+abbrev pub at_start : Rules → ScriptStart → State
+at_start r start = open_at (beginning r start)

@@ -14,7 +14,7 @@ ghost use Rattle.session_lines.specs.Stepping.{step_session_command};
 ghost use Rattle.session_lines.specs.Steps.{steps_of_command};
 
 use crate::firing::write_fired;
-use crate::mark::Mark;
+use crate::mark::PartyMark;
 use crate::progress::Progress;
 use crate::writing::{write_refusal, write_reply};
 use dictionary::FactEngine;
@@ -44,13 +44,13 @@ fn write_change<E: FactEngine, K: Sink>(
     reply: Reply,
     out: &mut K,
 ) -> Progress
-    requires noted { (before : Results) × (watches.now ≡ noted watches.now.pairs before) }
-    ensures written { (before : Results) → watches.now ≡ noted watches.now.pairs before → WrittenAs (K.output out.old)
-        (K.output out.new) (replied_and_fired session.now (named_relations table.now) before watches.now.pairs reply)
+    requires noted { (before : Results) × (watches.now ≡ noted watches.now.watched before) }
+    ensures written { (before : Results) → watches.now ≡ noted watches.now.watched before → WrittenAs (K.output out.old)
+        (K.output out.new) (replied_and_fired session.now (named_relations table.now) before watches.now.watched reply)
         result }
     ensures later { (K.output out.old).faults ≤ (K.output out.new).faults }
 {
-    match write_reply(session, Mark::Unmarked, reply, out) {
+    match write_reply(session, PartyMark::Unmarked, reply, out) {
         Progress::More => write_fired(session, watches, table, out),
         Progress::Over => Progress::Over,
         Progress::Unwritten => Progress::Unwritten,
@@ -68,16 +68,16 @@ fn write_said<E: FactEngine, K: Sink>(
     reply: Reply,
     out: &mut K,
 ) -> Progress
-    requires noted { changes command.now ≡ true → (before : Results) × (watches.now ≡ noted watches.now.pairs before) }
-    ensures written { (before : Results) → (changes command.now ≡ true → watches.now ≡ noted watches.now.pairs before)
+    requires noted { changes command.now ≡ true → (before : Results) × (watches.now ≡ noted watches.now.watched before) }
+    ensures written { (before : Results) → (changes command.now ≡ true → watches.now ≡ noted watches.now.watched before)
         → WrittenAs (K.output out.old) (K.output out.new) (if changes command.now then replied_and_fired session.now
-        (named_relations table.now) before watches.now.pairs reply else replied session.now reply ∷ []) result }
+        (named_relations table.now) before watches.now.watched reply else replied session.now reply ∷ []) result }
     ensures later { (K.output out.old).faults ≤ (K.output out.new).faults }
 {
     if is_change(command) {
         write_change(session, watches, table, reply, out)
     } else {
-        write_reply(session, Mark::Unmarked, reply, out)
+        write_reply(session, PartyMark::Unmarked, reply, out)
     }
 }
 
@@ -92,7 +92,7 @@ fn answer_noted<E: FactEngine, L: Ledger, K: Sink>(
     out: &mut K,
     steps: &mut Steps<L>,
 ) -> Progress
-    requires noted { changes command.now ≡ true → watches.now ≡ noted watches.now.pairs
+    requires noted { changes command.now ≡ true → watches.now ≡ noted watches.now.watched
         (plain (accepted session.old.dict) session.old.timeline.now) }
     requires same_checks { IsTrue (asks_checks command.now) → SameChecks (rules session.old.dict) (named_checks checks.now) }
     requires few { session.old.changes < 2 ^ 63 }
@@ -109,7 +109,7 @@ fn answer_noted<E: FactEngine, L: Ledger, K: Sink>(
 {
     match session.command(command, checks, steps) {
         Ok(reply) => write_said(session, watches, table, command, reply, out),
-        Err(refusal) => write_refusal(Mark::Unmarked, refusal, out),
+        Err(refusal) => write_refusal(PartyMark::Unmarked, refusal, out),
     }
 }
 

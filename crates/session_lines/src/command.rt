@@ -9,7 +9,7 @@ ghost use Rattle.session_lines.specs.Steps.{steps_of_command};
 
 use crate::changing::answer_session_command;
 use crate::listing::answer_missing;
-use crate::mark::Mark;
+use crate::mark::PartyMark;
 use crate::progress::Progress;
 use crate::tables::Tables;
 use crate::watching::{answer_unwatch, answer_watch};
@@ -51,7 +51,7 @@ fn answer_host_command<E: FactEngine, K: Sink>(
     ensures later { (K.output out.old).faults ≤ (K.output out.new).faults }
 {
     match command {
-        Command::Missing(path) => answer_missing(alloc, session, Mark::Unmarked, path, out),
+        Command::Missing(path) => answer_missing(alloc, session, PartyMark::Unmarked, path, out),
         Command::Watch(name, path) => answer_watch(session, watches, table, name, path, out),
         Command::Unwatch(name, path) => answer_unwatch(session, watches, table, name, path, out),
         _ => Progress::Over,

@@ -5,7 +5,7 @@ ghost use Rattle.dict_meaning.specs.Plain.{plain};
 ghost use Rattle.evaluation.specs.Results.{Results};
 ghost use Rattle.dict_meaning.specs.Slots.{stands};
 ghost use Rattle.fact_watch.specs.Tables.{named_relations};
-ghost use Rattle.fact_watch.specs.Watching.{code_at, noted, pair_says};
+ghost use Rattle.fact_watch.specs.Watching.{code_at, noted, says_of_watch};
 ghost use Rattle.session_lines.specs.Answering.{WrittenAs};
 ghost use Rattle.session_lines.specs.Firing.{firing_lines, firing_lines_at, name_at, watch_line};
 ghost use Rattle.session_lines.specs.Writing.{WroteAs};
@@ -57,13 +57,13 @@ fn put_line<E: FactEngine, K: Sink>(
 
 // Whether the watch at n fires, of what was noted and the result now.
 fn fires<E: FactEngine>(session: &Session<E>, watches: &Watches, table: &WatchTable, n: u32) -> bool
-    ensures { (before : Results) → watches.now ≡ noted watches.now.pairs before → result
-        ≡ pair_says (code_at (λ r. r.1) (named_relations table.now)) (slice_get watches.now.pairs n) before
+    ensures { (before : Results) → watches.now ≡ noted watches.now.watched before → result
+        ≡ says_of_watch (code_at (λ r. r.1) (named_relations table.now)) (slice_get watches.now.watched n) before
         (plain (accepted session.now.dict) session.now.timeline.now) }
 {
     match watches.at(n) {
         None => false,
-        Some(pair) => pair.0 < table.len() && watches.fires(table, session, n),
+        Some(watch) => watch.0 < table.len() && watches.fires(table, session, n),
     }
 }
 
@@ -75,17 +75,17 @@ fn put_at<E: FactEngine, K: Sink>(
     n: u32,
     out: &mut K,
 ) -> Result<(), Failed>
-    requires noted { (before : Results) × (watches.now ≡ noted watches.now.pairs before) }
-    ensures { (before : Results) → watches.now ≡ noted watches.now.pairs before → WroteAs (K.output out.old)
+    requires noted { (before : Results) × (watches.now ≡ noted watches.now.watched before) }
+    ensures { (before : Results) → watches.now ≡ noted watches.now.watched before → WroteAs (K.output out.old)
         (K.output out.new) (firing_lines_at (accepted session.now.dict).tree (named_relations table.now) before
-        (plain (accepted session.now.dict) session.now.timeline.now) (slice_get watches.now.pairs n)) result }
+        (plain (accepted session.now.dict) session.now.timeline.now) (slice_get watches.now.watched n)) result }
 {
     if !fires(session, watches, table, n) {
         return Ok(());
     }
     match watches.at(n) {
         None => Ok(()),
-        Some(pair) => put_line(session, table, pair.0, pair.1, out),
+        Some(watch) => put_line(session, table, watch.0, watch.1, out),
     }
 }
 
@@ -96,10 +96,10 @@ fn put_fired<E: FactEngine, K: Sink>(
     table: &WatchTable,
     out: &mut K,
 ) -> Result<(), Failed>
-    requires noted { (before : Results) × (watches.now ≡ noted watches.now.pairs before) }
-    ensures { (before : Results) → watches.now ≡ noted watches.now.pairs before → WroteAs (K.output out.old)
+    requires noted { (before : Results) × (watches.now ≡ noted watches.now.watched before) }
+    ensures { (before : Results) → watches.now ≡ noted watches.now.watched before → WroteAs (K.output out.old)
         (K.output out.new) (firing_lines (accepted session.now.dict).tree (named_relations table.now) before
-        (plain (accepted session.now.dict) session.now.timeline.now) watches.now.pairs) result }
+        (plain (accepted session.now.dict) session.now.timeline.now) watches.now.watched) result }
 {
     for n in 0..watches.len() {
         match put_at(session, watches, table, n, out) {
@@ -117,10 +117,10 @@ pub fn write_fired<E: FactEngine, K: Sink>(
     table: &WatchTable,
     out: &mut K,
 ) -> Progress
-    requires noted { (before : Results) × (watches.now ≡ noted watches.now.pairs before) }
-    ensures written { (before : Results) → watches.now ≡ noted watches.now.pairs before → WrittenAs (K.output out.old)
+    requires noted { (before : Results) × (watches.now ≡ noted watches.now.watched before) }
+    ensures written { (before : Results) → watches.now ≡ noted watches.now.watched before → WrittenAs (K.output out.old)
         (K.output out.new) (firing_lines (accepted session.now.dict).tree (named_relations table.now) before
-        (plain (accepted session.now.dict) session.now.timeline.now) watches.now.pairs) result }
+        (plain (accepted session.now.dict) session.now.timeline.now) watches.now.watched) result }
     ensures later { (K.output out.old).faults ≤ (K.output out.new).faults }
 {
     as_progress(put_fired(session, watches, table, out))

@@ -19,7 +19,7 @@ mod writing;
 pub use answering::answer_ready;
 pub use laws::{final_lines_stay, undo_restores};
 pub use listing::answer_missing;
-pub use mark::Mark;
+pub use mark::PartyMark;
 pub use numbered::print_numbered;
 pub use progress::Progress;
 pub use reading::answer_reads;

@@ -11,7 +11,7 @@ ghost use Rattle.session_lines.specs.Replies.{missing_count, missing_lines, miss
 ghost use Rattle.session_lines.specs.Marks.{marked, marked_lines};
 ghost use Rattle.session_lines.specs.Writing.{WroteAs};
 
-use crate::mark::Mark;
+use crate::mark::PartyMark;
 use crate::numbered::print_numbered;
 use crate::progress::Progress;
 use crate::writing::{as_progress, put_line, write_refusal};
@@ -27,7 +27,7 @@ use value_text::Line;
 // Puts the path of a slot that stands.
 fn put_slot<E: FactEngine, K: Sink>(
     session: &Session<E>,
-    mark: Mark,
+    mark: PartyMark,
     slot: Slot,
     out: &mut K,
 ) -> Result<(), Failed>
@@ -46,7 +46,7 @@ fn put_slot<E: FactEngine, K: Sink>(
 /// Puts the paths of slots that stand, in order, each in a line.
 pub fn put_slots<E: FactEngine, K: Sink>(
     session: &Session<E>,
-    mark: Mark,
+    mark: PartyMark,
     slots: &[Slot],
     out: &mut K,
 ) -> Result<(), Failed>
@@ -64,7 +64,7 @@ pub fn put_slots<E: FactEngine, K: Sink>(
 }
 
 // Puts how many they are.
-fn put_count<K: Sink>(mark: Mark, count: usize, out: &mut K) -> Result<(), Failed>
+fn put_count<K: Sink>(mark: PartyMark, count: usize, out: &mut K) -> Result<(), Failed>
     ensures { WroteAs (K.output out.old) (K.output out.new) (marked mark (numbered (codes "missing ") count) ∷ []) result }
 {
     let mut line = Line::new();
@@ -75,7 +75,7 @@ fn put_count<K: Sink>(mark: Mark, count: usize, out: &mut K) -> Result<(), Faile
 // Puts how many they are, and their paths.
 fn put_missing<E: FactEngine, K: Sink>(
     session: &Session<E>,
-    mark: Mark,
+    mark: PartyMark,
     slots: &[Slot],
     out: &mut K,
 ) -> Result<(), Failed>
@@ -94,7 +94,7 @@ fn put_missing<E: FactEngine, K: Sink>(
 fn write_missing<E: FactEngine, K: Sink>(
     alloc: Global,
     session: &Session<E>,
-    mark: Mark,
+    mark: PartyMark,
     slot: Slot,
     out: &mut K,
 ) -> Progress
@@ -113,7 +113,7 @@ fn write_missing<E: FactEngine, K: Sink>(
 pub fn answer_missing<E: FactEngine, K: Sink>(
     alloc: Global,
     session: &Session<E>,
-    mark: Mark,
+    mark: PartyMark,
     path: &SlotPath,
     out: &mut K,
 ) -> Progress

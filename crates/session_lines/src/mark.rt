@@ -7,7 +7,7 @@ use value_text::Line;
 
 /// To whom a line of a reply is told.
 #[derive(Clone, Copy, Debug, PartialEq, Eq)]
-pub enum Mark {
+pub enum PartyMark {
     /// To the one person of a session: nothing stands before it.
     Unmarked,
     /// To a party at a desk, whose mark stands before it.
@@ -15,14 +15,14 @@ pub enum Mark {
 }
 
 /// Prints the mark into an empty line.
-pub fn print_mark(mark: Mark, line: &mut Line)
+pub fn print_mark(mark: PartyMark, line: &mut Line)
     requires { line.old ≡ [] }
     ensures text { line.new ≡ mark_text mark }
     ensures short { length line.new ≤ 42 }
 {
     match mark {
-        Mark::Unmarked => {}
-        Mark::Party(party) => {
+        PartyMark::Unmarked => {}
+        PartyMark::Party(party) => {
             print_numbered("@", party as u64, line);
             line.push(b" ");
         }

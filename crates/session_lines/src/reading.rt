@@ -9,7 +9,7 @@ ghost use Rattle.session_lines.specs.Answering.{OutputAs};
 ghost use Rattle.session_lines.specs.SlotReads.{read_answer, read_lines};
 
 use crate::listing::put_slots;
-use crate::mark::Mark;
+use crate::mark::PartyMark;
 use crate::progress::Progress;
 use crate::writing::{as_progress, write_refusal};
 use dictionary::FactEngine;
@@ -33,7 +33,7 @@ fn write_reads<E: FactEngine, K: Sink>(
     ensures later { (K.output out.old).faults ≤ (K.output out.new).faults }
 {
     match reads(alloc, session, slot) {
-        Ok(slots) => as_progress(put_slots(session, Mark::Unmarked, &slots, out)),
+        Ok(slots) => as_progress(put_slots(session, PartyMark::Unmarked, &slots, out)),
         Err(NoMemory) => Progress::OutOfMemory,
     }
 }
@@ -52,6 +52,6 @@ pub fn answer_reads<E: FactEngine, K: Sink>(
 {
     match session.slot_of(path) {
         Ok(slot) => write_reads(alloc, session, slot, out),
-        Err(refusal) => write_refusal(Mark::Unmarked, refusal, out),
+        Err(refusal) => write_refusal(PartyMark::Unmarked, refusal, out),
     }
 }

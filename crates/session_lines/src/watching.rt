@@ -7,7 +7,7 @@ ghost use Rattle.session_lines.specs.Replies.{is_watch_memory, watch_refusal_nam
 ghost use Rattle.session_lines.specs.Stepping.{cut_watch, put_watch};
 ghost use Rattle.std.specs.Prelude.{Ok};
 
-use crate::mark::Mark;
+use crate::mark::PartyMark;
 use crate::progress::Progress;
 use crate::writing::{write_ended, write_line, write_refusal};
 use dictionary::FactEngine;
@@ -54,7 +54,7 @@ fn write_watch_refusal<K: Sink>(refusal: WatchRefusal, out: &mut K) -> Progress
     let mut line = Line::new();
     line.push(b"refused ");
     line.push(refusal_name(refusal).as_bytes());
-    write_line(Mark::Unmarked, &mut line, out)
+    write_line(PartyMark::Unmarked, &mut line, out)
 }
 
 // Puts a watch on a slot that stands.
@@ -98,7 +98,7 @@ pub fn answer_watch<E: FactEngine, K: Sink>(
 {
     match session.slot_of(path) {
         Ok(slot) => watch_slot(session, watches, table, name, slot, out),
-        Err(refusal) => write_refusal(Mark::Unmarked, refusal, out),
+        Err(refusal) => write_refusal(PartyMark::Unmarked, refusal, out),
     }
 }
 
@@ -143,6 +143,6 @@ pub fn answer_unwatch<E: FactEngine, K: Sink>(
 {
     match session.slot_of(path) {
         Ok(slot) => unwatch_slot(session, watches, table, name, slot, out),
-        Err(refusal) => write_refusal(Mark::Unmarked, refusal, out),
+        Err(refusal) => write_refusal(PartyMark::Unmarked, refusal, out),
     }
 }

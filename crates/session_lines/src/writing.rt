@@ -8,7 +8,7 @@ ghost use Rattle.session_lines.specs.Marks.{marked};
 ghost use Rattle.session_lines.specs.Replies.{line_with, refusal_text, reply_text};
 ghost use Rattle.session_lines.specs.Writing.{WroteAs};
 
-use crate::mark::{Mark, print_mark};
+use crate::mark::{PartyMark, print_mark};
 use crate::progress::Progress;
 use crate::reply::{print_refusal, print_reply};
 use dictionary::FactEngine;
@@ -56,13 +56,13 @@ pub fn put_printed<K: Sink>(text: &mut Line, out: &mut K) -> Result<(), Failed>
 
 /// The same behind a mark.
 #[inline(always)]
-pub fn put_line<K: Sink>(mark: Mark, text: &mut Line, out: &mut K) -> Result<(), Failed>
+pub fn put_line<K: Sink>(mark: PartyMark, text: &mut Line, out: &mut K) -> Result<(), Failed>
     requires { length text.old ≤ 1050 }
     ensures { WroteAs (K.output out.old) (K.output out.new) (marked mark text.old ∷ []) result }
 {
     match mark {
-        Mark::Unmarked => put_printed(text, out),
-        Mark::Party(_) => {
+        PartyMark::Unmarked => put_printed(text, out),
+        PartyMark::Party(_) => {
             let mut line = Line::new();
             print_mark(mark, &mut line);
             line.push(text.bytes());
@@ -73,7 +73,7 @@ pub fn put_line<K: Sink>(mark: Mark, text: &mut Line, out: &mut K) -> Result<(),
 
 /// Writes a printed text as a line, and says how the script goes on behind it.
 #[inline(always)]
-pub fn write_line<K: Sink>(mark: Mark, text: &mut Line, out: &mut K) -> Progress
+pub fn write_line<K: Sink>(mark: PartyMark, text: &mut Line, out: &mut K) -> Progress
     requires { length text.old ≤ 1050 }
     ensures written { WrittenAs (K.output out.old) (K.output out.new) (marked mark text.old ∷ []) result }
     ensures later { (K.output out.old).faults ≤ (K.output out.new).faults }
@@ -85,7 +85,7 @@ pub fn write_line<K: Sink>(mark: Mark, text: &mut Line, out: &mut K) -> Progress
 // Writes what the session says, as a line that is printed.
 fn write_printed<E: FactEngine, K: Sink>(
     session: &Session<E>,
-    mark: Mark,
+    mark: PartyMark,
     reply: Reply,
     out: &mut K,
 ) -> Progress
@@ -102,7 +102,7 @@ fn write_printed<E: FactEngine, K: Sink>(
 /// a script are changes.
 pub fn write_reply<E: FactEngine, K: Sink>(
     session: &Session<E>,
-    mark: Mark,
+    mark: PartyMark,
     reply: Reply,
     out: &mut K,
 ) -> Progress
@@ -111,13 +111,13 @@ pub fn write_reply<E: FactEngine, K: Sink>(
     ensures later { (K.output out.old).faults ≤ (K.output out.new).faults }
 {
     match (mark, reply) {
-        (Mark::Unmarked, Reply::Done) => write_ended(b"ok\n", out),
+        (PartyMark::Unmarked, Reply::Done) => write_ended(b"ok\n", out),
         _ => write_printed(session, mark, reply, out),
     }
 }
 
 /// Writes why a command is refused.
-pub fn write_refusal<K: Sink>(mark: Mark, refusal: Refusal, out: &mut K) -> Progress
+pub fn write_refusal<K: Sink>(mark: PartyMark, refusal: Refusal, out: &mut K) -> Progress
     ensures written { EndsOrWrites (is_memory refusal) (K.output out.old) (K.output out.new)
         (marked mark (refusal_text refusal) ∷ []) result }
     ensures later { (K.output out.old).faults ≤ (K.output out.new).faults }

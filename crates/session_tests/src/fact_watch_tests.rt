@@ -65,7 +65,7 @@ fn noted(alloc: Global, session: &Session<PlainTable>) -> Option<Watches> {
 
 fn fires(watches: &Watches, table: &WatchTable, session: &Session<PlainTable>, n: u32) -> bool {
     match watches.at(n) {
-        Some(pair) => pair.0 < table.len() && watches.fires(table, session, n),
+        Some(watch) => watch.0 < table.len() && watches.fires(table, session, n),
         None => false,
     }
 }

@@ -5,7 +5,7 @@ use Rattle.answers.specs.Change.{Change, applied, inverse}
 use Rattle.answers.specs.WellFormed.{WellFormed}
 use Rattle.answers.proofs.ChangeLaws.{fits_inverse_undoes}
 use Rattle.answers.proofs.WellLaws.{applied_well}
-use Rattle.session_undo.specs.UndoState.{UndoState, moved_back, moved_forth, changed, made, undone, redone, FitInTurn, Kept}
+use Rattle.session_undo.specs.UndoState.{UndoState, moved_back, moved_forth, changed, made, undone, redone, FitInTurn, IsConsistent}
 use Rattle.session_undo.specs.Timeline.{Timeline, timeline, timeline_back, timeline_forth, trace}
 use Rattle.session_undo.proofs.TimelineLaws.{timeline_moved_back, kept_moved_back, timeline_moved_forth, kept_moved_forth, kept_changed}
 
@@ -34,16 +34,16 @@ steps_forth : ℕ → Timeline → Timeline
 steps_forth zero t = t
 steps_forth (suc n) t = steps_forth n (timeline_forth t)
 
-kept_undone : (n : ℕ) (p : UndoState) → Kept p → Kept (undone n p)
+kept_undone : (n : ℕ) (p : UndoState) → IsConsistent p → IsConsistent (undone n p)
 kept_undone zero p k = k
 kept_undone (suc n) p k = kept_undone n (moved_back p) (kept_moved_back p k)
 
-timeline_undone : (n : ℕ) (p : UndoState) → Kept p → timeline (undone n p) ≡ steps_back n (timeline p)
+timeline_undone : (n : ℕ) (p : UndoState) → IsConsistent p → timeline (undone n p) ≡ steps_back n (timeline p)
 unfolding steps_back
 timeline_undone zero p k = refl
 timeline_undone (suc n) p k = timeline_undone n (moved_back p) (kept_moved_back p k) ∙ ap (steps_back n) (timeline_moved_back p k)
 
-timeline_redone : (n : ℕ) (p : UndoState) → Kept p → timeline (redone n p) ≡ steps_forth n (timeline p)
+timeline_redone : (n : ℕ) (p : UndoState) → IsConsistent p → timeline (redone n p) ≡ steps_forth n (timeline p)
 unfolding steps_forth
 timeline_redone zero p k = refl
 timeline_redone (suc n) p k = timeline_redone n (moved_forth p) (kept_moved_forth p k) ∙ ap (steps_forth n) (timeline_moved_forth p k)
@@ -70,15 +70,15 @@ made_length : (cs : List Change) (p : UndoState) → length (made cs p).back ≡
 made_length [] p = omega arith
 made_length (c ∷ cs) p = let rest : length (made cs (changed p c)).back ≡ length cs + length (changed p c).back = made_length cs (changed p c) in omega arith
 
-kept_made : (cs : List Change) (p : UndoState) → Kept p → FitInTurn cs p.now → Kept (made cs p)
+kept_made : (cs : List Change) (p : UndoState) → IsConsistent p → FitInTurn cs p.now → IsConsistent (made cs p)
 kept_made [] p k fit = k
 kept_made (c ∷ cs) p k (fits, rest) = kept_made cs (changed p c) (kept_changed p c k fits) rest
 
-pub redone_made : (cs : List Change) (p : UndoState) → Kept p → FitInTurn cs p.now → (redone (length cs) (undone (length cs) (made cs p))).now ≡ (made cs p).now
+pub redone_made : (cs : List Change) (p : UndoState) → IsConsistent p → FitInTurn cs p.now → (redone (length cs) (undone (length cs) (made cs p))).now ≡ (made cs p).now
 redone_made cs p k fit =
     let n = length cs in
     let q = made cs p in
-    let kq : Kept q = kept_made cs p k fit in
+    let kq : IsConsistent q = kept_made cs p k fit in
     let long : length q.back ≡ length cs + length p.back = made_length cs p in
     let before : length (trace q.back q.now) ≡ length q.back = trace_length q.back q.now in
     let enough : length cs ≤ length (trace q.back q.now) = omega arith in

@@ -2,7 +2,7 @@
 use Rattle.std.specs.Prelude.{◌≡◌, ℕ, List, length}
 use Rattle.answers.specs.Change.{Change, Fits, applied}
 use Rattle.answers.specs.WellFormed.{WellFormed}
-use Rattle.session_undo.specs.UndoState.{UndoState, moved_back, moved_forth, changed, forgotten, made, undone, redone, FitInTurn, Kept}
+use Rattle.session_undo.specs.UndoState.{UndoState, moved_back, moved_forth, changed, forgotten, made, undone, redone, FitInTurn, IsConsistent}
 use Rattle.session_undo.specs.Timeline.{timeline, timeline_back, timeline_forth, timeline_change, timeline_forgotten}
 
 -- n changes that fit in turn, and n steps back: the answers before them, and the changes that led back from those
@@ -14,29 +14,29 @@ UndoneKeepsEarlier = (cs : List Change) (p : UndoState) → WellFormed p.now →
 
 -- and n steps forth: the answers after them
 abbrev pub RedoneIsAfter : Type 0
-RedoneIsAfter = (cs : List Change) (p : UndoState) → Kept p → FitInTurn cs p.now → (redone (length cs) (undone (length cs) (made cs p))).now ≡ (made cs p).now
+RedoneIsAfter = (cs : List Change) (p : UndoState) → IsConsistent p → FitInTurn cs p.now → (redone (length cs) (undone (length cs) (made cs p))).now ≡ (made cs p).now
 
 -- steps over changes are steps over whole answers
 abbrev pub BackIsOverAnswers : Type 0
-BackIsOverAnswers = (p : UndoState) → Kept p → timeline (moved_back p) ≡ timeline_back (timeline p)
+BackIsOverAnswers = (p : UndoState) → IsConsistent p → timeline (moved_back p) ≡ timeline_back (timeline p)
 
 abbrev pub ForthIsOverAnswers : Type 0
-ForthIsOverAnswers = (p : UndoState) → Kept p → timeline (moved_forth p) ≡ timeline_forth (timeline p)
+ForthIsOverAnswers = (p : UndoState) → IsConsistent p → timeline (moved_forth p) ≡ timeline_forth (timeline p)
 
 abbrev pub ChangeIsOverAnswers : Type 0
-ChangeIsOverAnswers = (p : UndoState) (c : Change) → Kept p → Fits c p.now → timeline (changed p c) ≡ timeline_change (timeline p) (applied c p.now)
+ChangeIsOverAnswers = (p : UndoState) (c : Change) → IsConsistent p → Fits c p.now → timeline (changed p c) ≡ timeline_change (timeline p) (applied c p.now)
 
 abbrev pub ForgettingIsOverAnswers : Type 0
 ForgettingIsOverAnswers = (most : ℕ) (p : UndoState) → timeline (forgotten most p) ≡ timeline_forgotten most (timeline p)
 
 abbrev pub BackKeeps : Type 0
-BackKeeps = (p : UndoState) → Kept p → Kept (moved_back p)
+BackKeeps = (p : UndoState) → IsConsistent p → IsConsistent (moved_back p)
 
 abbrev pub ForthKeeps : Type 0
-ForthKeeps = (p : UndoState) → Kept p → Kept (moved_forth p)
+ForthKeeps = (p : UndoState) → IsConsistent p → IsConsistent (moved_forth p)
 
 abbrev pub ChangeKeeps : Type 0
-ChangeKeeps = (p : UndoState) (c : Change) → Kept p → Fits c p.now → Kept (changed p c)
+ChangeKeeps = (p : UndoState) (c : Change) → IsConsistent p → Fits c p.now → IsConsistent (changed p c)
 
 abbrev pub ForgettingKeeps : Type 0
-ForgettingKeeps = (most : ℕ) (p : UndoState) → Kept p → Kept (forgotten most p)
+ForgettingKeeps = (most : ℕ) (p : UndoState) → IsConsistent p → IsConsistent (forgotten most p)

@@ -52,7 +52,7 @@ FitInTurn [] a = Unit {0}
 FitInTurn (c ∷ cs) a = Fits c a × FitInTurn cs (applied c a)
 
 -- the answers are well formed, and the changes back and forth fit one after another
-pub record Kept (p : UndoState) : Type 0 where
+pub record IsConsistent (p : UndoState) : Type 0 where
   pub well : WellFormed p.now
   pub back : FitInTurn p.back p.now
   pub ahead : FitInTurn p.ahead p.now

@@ -23,7 +23,7 @@ use Rattle.shared_desk.specs.Desk.{Desk, absent_refusals, changer, desk_after, d
 use Rattle.shared_desk.specs.DeskView.{IsOrderly}
 use Rattle.shared_desk.specs.Parties.{Line, desk_ended, desk_next}
 use Rattle.shared_desk.specs.Refusals.{first_of}
-use Rattle.shared_desk.specs.StaleRule.{AnothersChangeIsStale, EditsThere, IsAnothers, IsLastAnothers, Made, StaleIsAnothersChange, made, made_by}
+use Rattle.shared_desk.specs.StaleRule.{AnothersChangeIsStale, IsEditOfStanding, IsAnothers, IsLastAnothers, MadeChange, StaleIsAnothersChange, made, made_by}
 use Rattle.shared_desk.specs.declared.refusal.DeskRefusal.{DeskRefusal}
 use Rattle.shared_desk.specs.declared.refusal.DeskRefusal.TheVariants.{NotYours, Session, Stale}
 use Rattle.shared_desk.proofs.AfterLaws.{after_by, after_change, after_question}
@@ -48,32 +48,32 @@ place_or [] x y (suc k) e = absurd cc
 place_or (z ∷ zs) x y zero e = inl e
 place_or (z ∷ zs) x y (suc k) e = place_or zs x y k e
 
-parties_of : List Made → List ℕ
+parties_of : List MadeChange → List ℕ
 parties_of [] = []
 parties_of (m ∷ ms) = m.party ∷ parties_of ms
 
-parties_more : (all : List Made) (m : Made) → parties_of (all ++ m ∷ []) ≡ parties_of all ++ m.party ∷ []
+parties_more : (all : List MadeChange) (m : MadeChange) → parties_of (all ++ m ∷ []) ≡ parties_of all ++ m.party ∷ []
 unfolding parties_of
 parties_more [] m = refl
 parties_more (x ∷ xs) m = ap (λ ps. x.party ∷ ps) (parties_more xs m)
 
-party_at : (all : List Made) (m : Made) (k : ℕ) → slice_get all k ≡ Some m → slice_get (parties_of all) k ≡ Some m.party
+party_at : (all : List MadeChange) (m : MadeChange) (k : ℕ) → slice_get all k ≡ Some m → slice_get (parties_of all) k ≡ Some m.party
 unfolding parties_of
 party_at [] m k e = absurd cc
-party_at (x ∷ xs) m zero e = ap (option_map (λ (y : Made). y.party)) e
+party_at (x ∷ xs) m zero e = ap (option_map (λ (y : MadeChange). y.party)) e
 party_at (x ∷ xs) m (suc k) e = party_at xs m k e
 
 -- ---- the last change that touched a slot
 
 -- no change after so many touched it, and the last of those did
-record IsLastTouch (all : List Made) (s : Slot) (n : ℕ) : Type 0 where
-  within : (k : ℕ) (m : Made) → slice_get all k ≡ Some m → IsTrue (m.touched s) → k < n
-  by : 0 < n → (m : Made) × ((slice_get all (n - 1) ≡ Some m) × IsTrue (m.touched s))
+record IsLastTouch (all : List MadeChange) (s : Slot) (n : ℕ) : Type 0 where
+  within : (k : ℕ) (m : MadeChange) → slice_get all k ≡ Some m → IsTrue (m.touched s) → k < n
+  by : 0 < n → (m : MadeChange) × ((slice_get all (n - 1) ≡ Some m) × IsTrue (m.touched s))
 
 touch_none : (s : Slot) (n : ℕ) → n ≡ 0 → IsLastTouch [] s n
 touch_none s n e = record { within = λ k m f t. absurd cc; by = λ some. absurd (omega (arith, e, some)) }
 
-touch_made : (all : List Made) (m : Made) (s : Slot) → IsTrue (m.touched s) → IsLastTouch (all ++ m ∷ []) s (length all + 1)
+touch_made : (all : List MadeChange) (m : MadeChange) (s : Slot) → IsTrue (m.touched s) → IsLastTouch (all ++ m ∷ []) s (length all + 1)
 touch_made all m s h = record {
   within = λ k x e t.
       let less = place_within (all ++ m ∷ []) x k e in
@@ -84,21 +84,21 @@ touch_made all m s h = record {
       (m, (ap (slice_get (all ++ m ∷ [])) at ∙ get_last all m, h));
 }
 
-touch_kept : (all : List Made) (m : Made) (s : Slot) (n : ℕ) → m.touched s ≡ false → n ≤ length all → IsLastTouch all s n → IsLastTouch (all ++ m ∷ []) s n
+touch_kept : (all : List MadeChange) (m : MadeChange) (s : Slot) (n : ℕ) → m.touched s ≡ false → n ≤ length all → IsLastTouch all s n → IsLastTouch (all ++ m ∷ []) s n
 touch_kept all m s n h low last = record {
   within = λ k x e t. earlier k x t (place_or all m x k e);
   by = λ some. let found = last.by some in (found.0, (get_left all (m ∷ []) (n - 1) (omega (arith, some, low)) ∙ found.1.0, found.1.1));
 }
   where
-    earlier : (k : ℕ) (x : Made) → IsTrue (x.touched s) → (slice_get all k ≡ Some x) ⊎ (m ≡ x) → k < n
+    earlier : (k : ℕ) (x : MadeChange) → IsTrue (x.touched s) → (slice_get all k ≡ Some x) ⊎ (m ≡ x) → k < n
     earlier k x t (inl e) = last.within k x e t
-    earlier k x t (inr e) = let not_touched : x.touched s ≡ false = sym (ap (λ (y : Made). y.touched s) e) ∙ h in absurd cc
+    earlier k x t (inr e) = let not_touched : x.touched s ≡ false = sym (ap (λ (y : MadeChange). y.touched s) e) ∙ h in absurd cc
 
 -- ---- what is recorded of the changes that were made
 
 module _ (r : Rules) where
   -- their parties are the desk's, and each slot that stands has the number of the last that touched it
-  record IsHistory (d : Desk) (all : List Made) : Type 0 where
+  record IsHistory (d : Desk) (all : List MadeChange) : Type 0 where
     orderly : IsOrderly d
     numbered : length all ≡ d.session_state.changes
     parties : parties_of all ≡ d.changers
@@ -113,7 +113,7 @@ module _ (r : Rules) where
     last = λ s here. touch_none s _ (stamp_begun r.accepted a s);
   }
 
-  module _ (d : Desk) (all : List Made) (p : ℕ) (c : Command) (recorded : IsHistory d all) where
+  module _ (d : Desk) (all : List MadeChange) (p : ℕ) (c : Command) (recorded : IsHistory d all) where
     history_asked : IsOrderly (after_by r d p c false d.session_state) → IsHistory (after_by r d p c false d.session_state) (all ++ [])
     history_asked orderly = subst (IsHistory (after_by r d p c false d.session_state)) (sym (append-nil all)) (record {
       orderly = orderly;
@@ -122,7 +122,7 @@ module _ (r : Rules) where
       last = recorded.last;
     })
 
-    abbrev made_to : Answered → Made
+    abbrev made_to : Answered → MadeChange
     made_to b = record { party = p; touched = is_touched r.accepted d.session_state.timeline.now b }
 
     module _ (to : Timeline) where
@@ -169,18 +169,18 @@ module _ (r : Rules) where
             subst (λ (b : Bool). Follows b (desk_after r d p c)) (sym f) (subst (Follows false) (sym same) (history_asked (subst IsOrderly same orderly)))
 
   -- and all lines
-  history_all : (d : Desk) (all : List Made) (ls : List Line) → IsHistory d all → IsHistory (desk_ended r d ls) (all ++ made r d ls)
+  history_all : (d : Desk) (all : List MadeChange) (ls : List Line) → IsHistory d all → IsHistory (desk_ended r d ls) (all ++ made r d ls)
   history_all d all [] recorded = subst (IsHistory d) (sym (append-nil all)) recorded
   history_all d all (l ∷ ls) recorded = at (desk_step r d l.0 l.1) refl (λ t more h. history_all t more ls h)
     where
-      at : (x : Result (Reply × Desk) DeskRefusal) → desk_step r d l.0 l.1 ≡ x → ((t : Desk) (more : List Made) → IsHistory t more → IsHistory (desk_ended r t ls) (more ++ made r t ls))
+      at : (x : Result (Reply × Desk) DeskRefusal) → desk_step r d l.0 l.1 ≡ x → ((t : Desk) (more : List MadeChange) → IsHistory t more → IsHistory (desk_ended r t ls) (more ++ made r t ls))
           → IsHistory (desk_ended r (desk_next d x) ls) (all ++ (made_by r d l x ++ made r (desk_next d x) ls))
       at (Ok x) e rest = subst (IsHistory (desk_ended r x.1 ls)) (append_assoc all (made_by r d l (Ok x)) (made r x.1 ls)) (rest x.1 (all ++ made_by r d l (Ok x)) (history_on d all l.0 l.1 recorded x e))
       at (Err q) e rest = rest d all recorded
 
   -- ---- a slot that stands
 
-  module _ (d : Desk) (all : List Made) (recorded : IsHistory d all) (p : ℕ) (s : Slot) (here : IsTrue (stands (tree_of r) d.session_state.timeline.now s)) where
+  module _ (d : Desk) (all : List MadeChange) (recorded : IsHistory d all) (p : ℕ) (s : Slot) (here : IsTrue (stands (tree_of r) d.session_state.timeline.now s)) where
     -- such a change is none after the stamp
     none_later : (k : ℕ) → IsAnothers all p (d.last_seen p s) s k → k ≤ stamp_of d.session_state.counts s
     none_later k another =
@@ -251,20 +251,20 @@ refused_stale (Some y) l q x n e = absurd cc
 stale_refused : (o : Option Refusal) (l q : Option ℕ) (x : Option Refusal) (n : ℕ) → o ≡ None → l ≡ Some n → refused_of o l q x ≡ Some (Stale n)
 stale_refused o l q x n e f = λ i. refused_of (e i) (f i) q x
 
-module _ (r : Rules) (d : Desk) (p : ℕ) (c : Command) (path : SlotPath) (there : EditsThere r d c path) (n : ℕ) where
+module _ (r : Rules) (d : Desk) (p : ℕ) (c : Command) (path : SlotPath) (there : IsEditOfStanding r d c path) (n : ℕ) where
   edit_refused : stale d p (slot_of (tree_of r) path) ≡ Some n → desk_refusal r d p c ≡ Some (Stale n)
   edit_refused e =
       stale_refused (first_session (absent_refusals r d.session_state.timeline.now c)) (stale_named (tree_of r) d p (edited c)) (owner d p c) (refusal r d.session_state c) n
       there.there (ap (stale_named (tree_of r) d p) there.edits ∙ e)
 
 -- what a refusal as stale says
-refused_edit : (r : Rules) (d : Desk) (p : ℕ) (c : Command) (n : ℕ) → desk_refusal r d p c ≡ Some (Stale n) → (path : SlotPath) × (EditsThere r d c path × (stale d p (slot_of (tree_of r) path) ≡ Some n))
+refused_edit : (r : Rules) (d : Desk) (p : ℕ) (c : Command) (n : ℕ) → desk_refusal r d p c ≡ Some (Stale n) → (path : SlotPath) × (IsEditOfStanding r d c path × (stale d p (slot_of (tree_of r) path) ≡ Some n))
 refused_edit r d p c n e =
     let parts = refused_stale (first_session (absent_refusals r d.session_state.timeline.now c)) (stale_named (tree_of r) d p (edited c)) (owner d p c) (refusal r d.session_state c) n e in
     named parts.0 (edited c) refl parts.1
   where
     named : first_session (absent_refusals r d.session_state.timeline.now c) ≡ None → (o : Option SlotPath) → edited c ≡ o → stale_named (tree_of r) d p o ≡ Some n
-        → (path : SlotPath) × (EditsThere r d c path × (stale d p (slot_of (tree_of r) path) ≡ Some n))
+        → (path : SlotPath) × (IsEditOfStanding r d c path × (stale d p (slot_of (tree_of r) path) ≡ Some n))
     named none None f g = absurd cc
     named none (Some path) f g = (path, (record { edits = f; there = none }, g))
 

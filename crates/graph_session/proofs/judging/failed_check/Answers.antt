@@ -2,7 +2,7 @@ use Rattle.std.proofs.Common.{◌∙◌, ap, List}
 use Rattle.text_checks.specs.Tables.{named_checks}
 use Rattle.dict_source.specs.Dictionary.{number_from}
 use Rattle.dict_types.specs.declared.limit.Limit.{Limit}
-use Rattle.graph_session.specs.Kinds.{fails}
+use Rattle.graph_session.specs.Judging.{fails}
 use Rattle.graph_session.specs.Rules.{rules}
 use Rattle.graph_session.proofs.LimitLaws.{checks_agree, table_there}
 use Rattle.graph_session.proofs.judging.failed_check.Goals as goal

@@ -2,7 +2,7 @@ use Rattle.std.proofs.Common.{◌≡◌, List, [], Option, ap, sym, length, ◌�
 use Rattle.std.specs.Prelude.{unwrap_or}
 use Rattle.dict_types.specs.declared.limit.Limit.{Limit}
 use Rattle.dictionary.specs.AcceptedParts.{accepted, names_of}
-use Rattle.graph_session.specs.Kinds.{limits_of}
+use Rattle.graph_session.specs.Judging.{limits_of}
 use Rattle.graph_session.proofs.LimitLaws.{limits_few}
 use Rattle.graph_session.proofs.TypeLaws.{kept_there}
 use Rattle.graph_session.proofs.judging.limits_of.Goals as goal

@@ -1,6 +1,6 @@
 use Rattle.std.proofs.Common.{◌≡◌, ◌+◌, drop}
 use Rattle.dict_source.specs.Dictionary.{number_from}
-use Rattle.graph_session.specs.Kinds.{breaks}
+use Rattle.graph_session.specs.Judging.{breaks}
 use Rattle.graph_session.proofs.limits.first_broken.Given as goal
 
 -- none of those before i is broken

@@ -1,7 +1,7 @@
 use Rattle.std.proofs.Common.{◌≡◌, ◌+◌, drop}
 use Rattle.text_checks.specs.Tables.{named_checks}
 use Rattle.dict_source.specs.Dictionary.{number_from}
-use Rattle.graph_session.specs.Kinds.{fails}
+use Rattle.graph_session.specs.Judging.{fails}
 use Rattle.graph_session.proofs.limits.first_failed.Given as goal
 
 -- the check of none of those before i says no

@@ -12,4 +12,4 @@ use Rattle.interview.proofs.load_run.replies_to.Goals as goal
 pub returns-in-Done : goal.returns-in-Done
 returns-in-Done g c =
     let ended = rw c.in-Done.is at c.run_made-status.ensures.ends in
-    record { replies = output_replies (meaning_of (rules c.args.dictionary) Incremental (named_relations c.args.table.now) start) _ _ _ _ _ (ap (λ (s : SourceState). Some s.left) c.new-source.ensures) (ap (λ (s : SinkState). Some s.taken) c.in_ok-sink.ensures) refl ended.0 }
+    record { replies = output_replies (meaning_of (rules c.args.dictionary) Incremental (named_relations c.args.relations.now) start) _ _ _ _ _ (ap (λ (s : SourceState). Some s.left) c.new-source.ensures) (ap (λ (s : SinkState). Some s.taken) c.in_ok-sink.ensures) refl ended.0 }

@@ -3,7 +3,7 @@ use Rattle.std.proofs.lemmas.List.{length-take}
 use Rattle.script_lines.specs.Lines.{ended_lines}
 use Rattle.session_lines.specs.Writing.{WroteLines, WroteSome}
 use Rattle.session_lines.proofs.WritingLaws.{lines_on, some_on}
-use Rattle.interview.specs.Telling.{LinesOutput}
+use Rattle.interview.specs.AnsweredLines.{LinesOutput}
 use Rattle.interview.proofs.PieceLaws.{behind_is, no_bytes, output_fed, output_none, quit_answers, some_fed, steps_on, steps_within}
 use Rattle.interview.proofs.piece.answer_piece.Goals as goal
 

@@ -2,7 +2,7 @@ use Rattle.std.proofs.Common.{◌≡◌, ◌+◌, ◌≤◌, true, ◌++◌, len
 use Rattle.fact_watch.specs.Tables.{named_relations}
 use Rattle.script_lines.specs.Lines.{HasNoNewline, ended_lines}
 use Rattle.interview.specs.Meanings.{IsBeginning, Meaning}
-use Rattle.interview.specs.Telling.{LinesOutput}
+use Rattle.interview.specs.AnsweredLines.{LinesOutput}
 use Rattle.session_lines.specs.Writing.{WroteLines}
 use Rattle.interview.proofs.piece.answer_piece.Given as goal
 

@@ -19,7 +19,7 @@ returns-in-Ok-Accepted g c =
     let had = rw c.in-Ok-Accepted.field-0-is at c.in-Ok-Accepted.ensures.obtained in
     record {
       ends = λ words asked. save_ends_run _ (did_by (g.H.Shelf.files c.args.shelf.now) (g.H.Shelf.files c.obtain.new.shelf) (g.S.Source.input c.args.script.now) (g.S.Source.input c.save_over.new.script) (g.K.Sink.output c.args.out.now) (g.K.Sink.output c.save_over.new.out)) _ asked had.0 had.1 _ had.2 c.save_over.result c.save_over.ensures.saves;
-      calls = λ words. inl (rules c.in-Ok-Accepted.dictionary, rw c.in-Ok-Accepted.field-0-is at c.in-Ok-Accepted.ensures.by_calls, c.save_over.ensures.calls, never_by_save (rules c.in-Ok-Accepted.dictionary) (save_meaning (rules c.in-Ok-Accepted.dictionary) (named_relations c.args.table.now)) (script_did (g.S.Source.input c.args.script.now) (g.S.Source.input c.save_over.new.script) (g.K.Sink.output c.args.out.now) (g.K.Sink.output c.save_over.new.out)) c.save_over.result c.save_over.ensures.saves);
+      calls = λ words. inl (rules c.in-Ok-Accepted.dictionary, rw c.in-Ok-Accepted.field-0-is at c.in-Ok-Accepted.ensures.by_calls, c.save_over.ensures.calls, never_by_save (rules c.in-Ok-Accepted.dictionary) (save_meaning (rules c.in-Ok-Accepted.dictionary) (named_relations c.args.relations.now)) (script_did (g.S.Source.input c.args.script.now) (g.S.Source.input c.save_over.new.script) (g.K.Sink.output c.args.out.now) (g.K.Sink.output c.save_over.new.out)) c.save_over.result c.save_over.ensures.saves);
     }
 
 pub returns-in-Ok-Refused : goal.returns-in-Ok-Refused

@@ -1,7 +1,7 @@
 use Rattle.std.proofs.Common.{List, sym, ap, subst, ◌∙◌}
 use Rattle.fact_watch.specs.Tables.{named_relations}
 use Rattle.script_lines.specs.Lines.{ScriptLine, ready_lines}
-use Rattle.interview.specs.Telling.{LineOutputAs}
+use Rattle.interview.specs.AnsweredLines.{LineOutputAs}
 use Rattle.interview.proofs.script.finish.Goals as goal
 
 pub returns-clause-output : goal.returns-clause-output

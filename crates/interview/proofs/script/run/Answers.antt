@@ -2,7 +2,7 @@ use Rattle.std.proofs.Common.{◌≡◌, ℕ, ◌<◌, ◌++◌, length, take, r
 use Rattle.std.proofs.lemmas.List.{append-nil, take-append-le, length-take}
 use Rattle.interview.specs.ScriptEnds.{script_did}
 use Rattle.interview.proofs.ScriptLaws.{none_so_far, more_so_far}
-use Rattle.interview.proofs.SoFarLaws.{talk_ends, talk_fails, talked_more, talked_none}
+use Rattle.interview.proofs.SoFarLaws.{exchange_ends, exchange_fails, exchange_goes_on, exchange_unbegun}
 use Rattle.interview.proofs.StepLaws.{steps_more, within_all, within_kept, within_piece, within_so_far}
 use Rattle.interview.proofs.EndLaws.{ends_at, ends_over, ends_unwritten, ends_out_of_memory, ends_unread, ends_too_long, leaves_at, leaves_over, left_at_end, left_over, quiet_at_end, told_at_end, told_first, told_over, told_part, told_too_long, told_unread}
 use Rattle.interview.proofs.script.run.Goals as goal
@@ -12,7 +12,7 @@ unfolding none_so_far
 loop-taken-init g c = (
   λ m begins means.
       let none = begins.steps g.T.LineHandler.most in
-      (m, means, begins, (rw c.new-lines.ensures (none_so_far m begins _ _), omega (arith, none), talked_none g.S.Source.pulled g.K.Sink.output m c.args.out.now c.args.script.now)),
+      (m, means, begins, (rw c.new-lines.ensures (none_so_far m begins _ _), omega (arith, none), exchange_unbegun g.S.Source.pulled g.K.Sink.output m c.args.out.now c.args.script.now)),
   omega arith,
   omega arith,
   omega arith,
@@ -32,8 +32,8 @@ loop-taken-preserved g c =
           let output = c.in-More.ensures.output so_far.0 so_far.2 so_far.1 in
           let more = more_so_far m so_far.0 output.0.0 _ _ _ _ _ _ _ _ _ _ _ _ so_far.3.0 c.in-Ok.ensures.bytes.0 c.in-Ok.ensures.bound.1 same output.0.3 output.0.2.over output.1 in
           let steps = steps_more g.T.LineHandler.most m begins _ _ _ _ _ so_far.0 _ so_far.3.0 _ _ so_far.3.1 _ _ _ same (c.answer_piece.ensures.steps so_far.0 so_far.2 so_far.1) in
-          let talked = talked_more g.S.Source.pulled g.K.Sink.output m c.args.out.now c.args.script.now _ _ c.loop-taken.out _ so_far.0 _ so_far.3.0 c.loop-taken.script so_far.3.2 (omega (arith, c.in-Ok.ensures.bound.0, length-take {A = ℕ})) _ c.pull.new.self _ c.in-Ok.ensures.call (omega (arith, length-take {A = ℕ})) (omega (arith, c.in-Ok.ensures.bound.1)) more.0.bytes more.1 in
-          (output.0.0, output.0.1, output.0.2, (more.0, rw more.1 steps, talked)),
+          let exchanged = exchange_goes_on g.S.Source.pulled g.K.Sink.output m c.args.out.now c.args.script.now _ _ c.loop-taken.out _ so_far.0 _ so_far.3.0 c.loop-taken.script so_far.3.2 (omega (arith, c.in-Ok.ensures.bound.0, length-take {A = ℕ})) _ c.pull.new.self _ c.in-Ok.ensures.call (omega (arith, length-take {A = ℕ})) (omega (arith, c.in-Ok.ensures.bound.1)) more.0.bytes more.1 in
+          (output.0.0, output.0.1, output.0.2, (more.0, rw more.1 steps, exchanged)),
       omega (arith, c.in-Ok.ensures.bound.0, length-take {A = ℕ}),
       omega (arith, c.loop-taken.invariant.2, c.answer_piece.ensures.later),
       omega (arith, c.loop-taken.invariant.3, c.in-Ok.ensures.cause),
@@ -58,7 +58,7 @@ returns-in-Ok-eq0 g c =
           leaves_at m (script_did (g.S.Source.input c.args.script.now) (g.S.Source.input c.pull.new.self) (g.K.Sink.output c.args.out.now) (g.K.Sink.output c.finish.new.out)) (g.S.Source.input c.loop-taken.script) (g.K.Sink.output c.loop-taken.out) _ so_far.0 _ so_far.3.0 _ _ (omega arith) read end c.finish.result _ c.status_at_end.ensures (c.finish.ensures.output so_far.0 so_far.1);
       calls = λ m begins means.
           let so_far = c.loop-taken.invariant.0 m begins means in
-          talk_ends g.S.Source.pulled g.K.Sink.output m c.args.out.now c.args.script.now _ _ c.loop-taken.out _ so_far.0 _ so_far.3.0 c.loop-taken.script so_far.3.2 (omega arith) _ c.pull.new.self _ c.in-Ok-eq0.ensures.call (omega (arith, length-take {A = ℕ})) _ c.finish.new.out _
+          exchange_ends g.S.Source.pulled g.K.Sink.output m c.args.out.now c.args.script.now _ _ c.loop-taken.out _ so_far.0 _ so_far.3.0 c.loop-taken.script so_far.3.2 (omega arith) _ c.pull.new.self _ c.in-Ok-eq0.ensures.call (omega (arith, length-take {A = ℕ})) _ c.finish.new.out _
           (told_at_end m (script_did (g.S.Source.input c.args.script.now) (g.S.Source.input c.pull.new.self) (g.K.Sink.output c.args.out.now) (g.K.Sink.output c.finish.new.out)) (g.S.Source.input c.loop-taken.script) (g.K.Sink.output c.loop-taken.out) _ so_far.0 _ so_far.3.0 _ _ (omega arith) c.finish.result _ c.status_at_end.ensures (c.finish.ensures.output so_far.0 so_far.1) _
           (ap (λ (n : ℕ). so_far.3.0.bytes ++ take n c.pull.new.buf) zero ∙ append-nil so_far.3.0.bytes))
           (left_at_end m (script_did (g.S.Source.input c.args.script.now) (g.S.Source.input c.pull.new.self) (g.K.Sink.output c.args.out.now) (g.K.Sink.output c.finish.new.out)) (g.S.Source.input c.loop-taken.script) (g.K.Sink.output c.loop-taken.out) _ so_far.0 _ so_far.3.0 _ _ (omega arith) c.finish.result _ c.status_at_end.ensures (c.finish.ensures.output so_far.0 so_far.1) _
@@ -89,7 +89,7 @@ returns-in-Over g c =
       calls = λ m begins means.
           let so_far = c.loop-taken.invariant.0 m begins means in
           let output = c.in-Over.ensures.output so_far.0 so_far.2 so_far.1 in
-          talk_ends g.S.Source.pulled g.K.Sink.output m c.args.out.now c.args.script.now _ _ c.loop-taken.out _ so_far.0 _ so_far.3.0 c.loop-taken.script so_far.3.2 (omega (arith, c.in-Ok.ensures.bound.0, length-take {A = ℕ})) _ c.pull.new.self _ c.in-Ok.ensures.call (omega (arith, length-take {A = ℕ})) _ c.answer_piece.new.out _
+          exchange_ends g.S.Source.pulled g.K.Sink.output m c.args.out.now c.args.script.now _ _ c.loop-taken.out _ so_far.0 _ so_far.3.0 c.loop-taken.script so_far.3.2 (omega (arith, c.in-Ok.ensures.bound.0, length-take {A = ℕ})) _ c.pull.new.self _ c.in-Ok.ensures.call (omega (arith, length-take {A = ℕ})) _ c.answer_piece.new.out _
           (told_over m (script_did (g.S.Source.input c.args.script.now) (g.S.Source.input c.pull.new.self) (g.K.Sink.output c.args.out.now) (g.K.Sink.output c.answer_piece.new.out)) (g.S.Source.input c.loop-taken.script) (g.K.Sink.output c.loop-taken.out) _ so_far.0 _ so_far.3.0 _ _ c.in-Ok.count c.in-Ok.ensures.bytes.0 c.in-Ok.ensures.bound.1 same (omega (arith, c.in-Ok.ensures.bound.0, length-take {A = ℕ})) output.0 output.1)
           (left_over m (script_did (g.S.Source.input c.args.script.now) (g.S.Source.input c.pull.new.self) (g.K.Sink.output c.args.out.now) (g.K.Sink.output c.answer_piece.new.out)) (g.S.Source.input c.loop-taken.script) (g.K.Sink.output c.loop-taken.out) _ so_far.0 _ so_far.3.0 _ _ c.in-Ok.count c.in-Ok.ensures.bytes.0 c.in-Ok.ensures.bound.1 same (omega (arith, c.in-Ok.ensures.bound.0, length-take {A = ℕ})) output.0 output.1 _ output.2);
       quiet = λ q. c.answer_piece.ensures.quiet q ∙ c.loop-taken.invariant.7 q;
@@ -112,7 +112,7 @@ returns-in-Unwritten g c =
       calls = λ m begins means.
           let so_far = c.loop-taken.invariant.0 m begins means in
           let output = c.in-Unwritten.ensures.output so_far.0 so_far.2 so_far.1 in
-          talk_ends g.S.Source.pulled g.K.Sink.output m c.args.out.now c.args.script.now _ _ c.loop-taken.out _ so_far.0 _ so_far.3.0 c.loop-taken.script so_far.3.2 (omega (arith, c.in-Ok.ensures.bound.0, length-take {A = ℕ})) _ c.pull.new.self _ c.in-Ok.ensures.call (omega (arith, length-take {A = ℕ})) _ c.answer_piece.new.out (g.T.LineHandler.stands c.answer_piece.new.handler)
+          exchange_ends g.S.Source.pulled g.K.Sink.output m c.args.out.now c.args.script.now _ _ c.loop-taken.out _ so_far.0 _ so_far.3.0 c.loop-taken.script so_far.3.2 (omega (arith, c.in-Ok.ensures.bound.0, length-take {A = ℕ})) _ c.pull.new.self _ c.in-Ok.ensures.call (omega (arith, length-take {A = ℕ})) _ c.answer_piece.new.out (g.T.LineHandler.stands c.answer_piece.new.handler)
           (told_part m (script_did (g.S.Source.input c.args.script.now) (g.S.Source.input c.pull.new.self) (g.K.Sink.output c.args.out.now) (g.K.Sink.output c.answer_piece.new.out)) (g.S.Source.input c.loop-taken.script) (g.K.Sink.output c.loop-taken.out) _ so_far.0 _ so_far.3.0 _ _ c.in-Ok.count c.in-Ok.ensures.bytes.0 c.in-Ok.ensures.bound.1 same (omega (arith, c.in-Ok.ensures.bound.0, length-take {A = ℕ})) output.0)
           tt;
       quiet = λ q. c.answer_piece.ensures.quiet q ∙ c.loop-taken.invariant.7 q;
@@ -138,7 +138,7 @@ returns-in-OutOfMemory g c =
       calls = λ m begins means.
           let so_far = c.loop-taken.invariant.0 m begins means in
           let output = c.in-OutOfMemory.ensures.output so_far.0 so_far.2 so_far.1 in
-          talk_ends g.S.Source.pulled g.K.Sink.output m c.args.out.now c.args.script.now _ _ c.loop-taken.out _ so_far.0 _ so_far.3.0 c.loop-taken.script so_far.3.2 (omega (arith, c.in-Ok.ensures.bound.0, length-take {A = ℕ})) _ c.pull.new.self _ c.in-Ok.ensures.call (omega (arith, length-take {A = ℕ})) _ c.answer_piece.new.out (g.T.LineHandler.stands c.answer_piece.new.handler)
+          exchange_ends g.S.Source.pulled g.K.Sink.output m c.args.out.now c.args.script.now _ _ c.loop-taken.out _ so_far.0 _ so_far.3.0 c.loop-taken.script so_far.3.2 (omega (arith, c.in-Ok.ensures.bound.0, length-take {A = ℕ})) _ c.pull.new.self _ c.in-Ok.ensures.call (omega (arith, length-take {A = ℕ})) _ c.answer_piece.new.out (g.T.LineHandler.stands c.answer_piece.new.handler)
           (told_first m (script_did (g.S.Source.input c.args.script.now) (g.S.Source.input c.pull.new.self) (g.K.Sink.output c.args.out.now) (g.K.Sink.output c.answer_piece.new.out)) (g.S.Source.input c.loop-taken.script) (g.K.Sink.output c.loop-taken.out) _ so_far.0 _ so_far.3.0 _ _ c.in-Ok.count c.in-Ok.ensures.bytes.0 c.in-Ok.ensures.bound.1 same (omega (arith, c.in-Ok.ensures.bound.0, length-take {A = ℕ})) output.0)
           tt;
       quiet = λ q. c.answer_piece.ensures.quiet q ∙ c.loop-taken.invariant.7 q;
@@ -158,7 +158,7 @@ returns-in-Err g c =
       leaves = λ m begins means. tt;
       calls = λ m begins means.
           let so_far = c.loop-taken.invariant.0 m begins means in
-          talk_fails g.S.Source.pulled g.K.Sink.output m c.args.out.now c.args.script.now _ _ c.loop-taken.out _ so_far.0 _ so_far.3.0 c.loop-taken.script so_far.3.2 c.loop-taken.invariant.1 _ c.pull.new.self c.in-Err.ensures.call (omega (arith, length-take {A = ℕ}))
+          exchange_fails g.S.Source.pulled g.K.Sink.output m c.args.out.now c.args.script.now _ _ c.loop-taken.out _ so_far.0 _ so_far.3.0 c.loop-taken.script so_far.3.2 c.loop-taken.invariant.1 _ c.pull.new.self c.in-Err.ensures.call (omega (arith, length-take {A = ℕ}))
           (told_unread m (script_did (g.S.Source.input c.args.script.now) (g.S.Source.input c.pull.new.self) (g.K.Sink.output c.args.out.now) (g.K.Sink.output c.loop-taken.out)) (g.S.Source.input c.loop-taken.script) (g.K.Sink.output c.loop-taken.out) _ so_far.0 _ so_far.3.0) (g.T.LineHandler.stands c.loop-taken.handler);
       quiet = λ q. c.loop-taken.invariant.7 q;
       unfailing = λ q e. cc;
@@ -183,7 +183,7 @@ returns-in-Ok-eq0-pull g c =
           leaves_at m (script_did (g.S.Source.input c.args.script.now) (g.S.Source.input c.pull-2.new.self) (g.K.Sink.output c.args.out.now) (g.K.Sink.output c.finish-in-Ok-eq0-pull.new.out)) (g.S.Source.input c.loop-taken.script) (g.K.Sink.output c.loop-taken.out) _ so_far.0 _ so_far.3.0 _ _ c.loop-taken.invariant.1 read end c.finish-in-Ok-eq0-pull.result _ c.status_at_end-in-Ok-eq0-pull.ensures (c.finish-in-Ok-eq0-pull.ensures.output so_far.0 so_far.1);
       calls = λ m begins means.
           let so_far = c.loop-taken.invariant.0 m begins means in
-          talk_ends g.S.Source.pulled g.K.Sink.output m c.args.out.now c.args.script.now _ _ c.loop-taken.out _ so_far.0 _ so_far.3.0 c.loop-taken.script so_far.3.2 c.loop-taken.invariant.1 _ c.pull-2.new.self _ c.in-Ok-eq0-pull.ensures.call (omega (arith, length-take {A = ℕ})) _ c.finish-in-Ok-eq0-pull.new.out _
+          exchange_ends g.S.Source.pulled g.K.Sink.output m c.args.out.now c.args.script.now _ _ c.loop-taken.out _ so_far.0 _ so_far.3.0 c.loop-taken.script so_far.3.2 c.loop-taken.invariant.1 _ c.pull-2.new.self _ c.in-Ok-eq0-pull.ensures.call (omega (arith, length-take {A = ℕ})) _ c.finish-in-Ok-eq0-pull.new.out _
           (told_at_end m (script_did (g.S.Source.input c.args.script.now) (g.S.Source.input c.pull-2.new.self) (g.K.Sink.output c.args.out.now) (g.K.Sink.output c.finish-in-Ok-eq0-pull.new.out)) (g.S.Source.input c.loop-taken.script) (g.K.Sink.output c.loop-taken.out) _ so_far.0 _ so_far.3.0 _ _ c.loop-taken.invariant.1 c.finish-in-Ok-eq0-pull.result _ c.status_at_end-in-Ok-eq0-pull.ensures (c.finish-in-Ok-eq0-pull.ensures.output so_far.0 so_far.1) _
           (ap (λ (n : ℕ). so_far.3.0.bytes ++ take n c.pull-2.new.buf) zero ∙ append-nil so_far.3.0.bytes))
           (left_at_end m (script_did (g.S.Source.input c.args.script.now) (g.S.Source.input c.pull-2.new.self) (g.K.Sink.output c.args.out.now) (g.K.Sink.output c.finish-in-Ok-eq0-pull.new.out)) (g.S.Source.input c.loop-taken.script) (g.K.Sink.output c.loop-taken.out) _ so_far.0 _ so_far.3.0 _ _ c.loop-taken.invariant.1 c.finish-in-Ok-eq0-pull.result _ c.status_at_end-in-Ok-eq0-pull.ensures (c.finish-in-Ok-eq0-pull.ensures.output so_far.0 so_far.1) _
@@ -208,7 +208,7 @@ returns-in-Ok-pull g c =
       leaves = λ m begins means. tt;
       calls = λ m begins means.
           let so_far = c.loop-taken.invariant.0 m begins means in
-          talk_ends g.S.Source.pulled g.K.Sink.output m c.args.out.now c.args.script.now _ _ c.loop-taken.out _ so_far.0 _ so_far.3.0 c.loop-taken.script so_far.3.2 c.loop-taken.invariant.1 _ c.pull-2.new.self _ c.in-Ok-pull.ensures.call (omega (arith, length-take {A = ℕ})) _ c.loop-taken.out (g.T.LineHandler.stands c.loop-taken.handler)
+          exchange_ends g.S.Source.pulled g.K.Sink.output m c.args.out.now c.args.script.now _ _ c.loop-taken.out _ so_far.0 _ so_far.3.0 c.loop-taken.script so_far.3.2 c.loop-taken.invariant.1 _ c.pull-2.new.self _ c.in-Ok-pull.ensures.call (omega (arith, length-take {A = ℕ})) _ c.loop-taken.out (g.T.LineHandler.stands c.loop-taken.handler)
           (told_too_long m (script_did (g.S.Source.input c.args.script.now) (g.S.Source.input c.pull-2.new.self) (g.K.Sink.output c.args.out.now) (g.K.Sink.output c.loop-taken.out)) (g.S.Source.input c.loop-taken.script) (g.K.Sink.output c.loop-taken.out) _ so_far.0 _ so_far.3.0 _ (omega arith) (omega (arith, c.in-Ok-pull.ensures.bound.1)))
           tt;
       quiet = λ q. c.loop-taken.invariant.7 q;
@@ -228,7 +228,7 @@ returns-in-Err-pull g c =
       leaves = λ m begins means. tt;
       calls = λ m begins means.
           let so_far = c.loop-taken.invariant.0 m begins means in
-          talk_fails g.S.Source.pulled g.K.Sink.output m c.args.out.now c.args.script.now _ _ c.loop-taken.out _ so_far.0 _ so_far.3.0 c.loop-taken.script so_far.3.2 c.loop-taken.invariant.1 _ c.pull-2.new.self c.in-Err-pull.ensures.call (omega (arith, length-take {A = ℕ}))
+          exchange_fails g.S.Source.pulled g.K.Sink.output m c.args.out.now c.args.script.now _ _ c.loop-taken.out _ so_far.0 _ so_far.3.0 c.loop-taken.script so_far.3.2 c.loop-taken.invariant.1 _ c.pull-2.new.self c.in-Err-pull.ensures.call (omega (arith, length-take {A = ℕ}))
           (told_unread m (script_did (g.S.Source.input c.args.script.now) (g.S.Source.input c.pull-2.new.self) (g.K.Sink.output c.args.out.now) (g.K.Sink.output c.loop-taken.out)) (g.S.Source.input c.loop-taken.script) (g.K.Sink.output c.loop-taken.out) _ so_far.0 _ so_far.3.0) (g.T.LineHandler.stands c.loop-taken.handler);
       quiet = λ q. c.loop-taken.invariant.7 q;
       unfailing = λ q e. cc;

@@ -6,7 +6,7 @@ use Rattle.interview.proofs.LastLineLaws.{puts_line}
 use Rattle.interview.specs.Calls.{beside}
 use Rattle.interview.specs.Words.{beginning_of}
 use Rattle.interview.specs.declared.resuming.Resumed.{Resumed}
-use Rattle.interview.proofs.CallLaws.{as_error, error_is, never_by_start, never_by_text, no_error, saved_as, talks_from}
+use Rattle.interview.proofs.CallLaws.{as_error, error_is, never_by_start, never_by_text, no_error, saved_as, exchange_from}
 use Rattle.interview.proofs.StartLaws.{begins_and_ends}
 use Rattle.interview.proofs.top.run_from.Goals as goal
 
@@ -22,7 +22,7 @@ returns-in-Ok-Begins g c =
     record {
       ends = begins_and_ends _ _ _ c.args.mode _ _ c.in-Ok-Begins.ready c.run_by.result had c.run_by.ensures.ends;
       fetches = saved_as (beside g.H.Shelf.fetched c.args.script.now c.args.out.now) (IsErrOf {T = Resumed} (Ok c.in-Ok-Begins.field-0) FetchFault) (c.run_by.result ≡ FetchFault) (λ wrong. absurd (no_error c.in-Ok-Begins.field-0 FetchFault wrong)) (λ failed. absurd (never_by_start _ _ _ _ (c.run_by.ensures.ends had.2.0.front had.2.2.front) failed)) c.args.shelf.now c.resume.new.shelf (beginning_of c.args.beginning) c.in-Ok-Begins.ensures.calls;
-      pulls = talks_from g.S.Source.pulled g.K.Sink.output c.args.out.now c.run_by.new.out c.args.script.now c.run_by.new.script _ _ _ c.args.mode _ c.run_by.result c.in-Ok-Begins.ready had c.run_by.ensures.calls;
+      pulls = exchange_from g.S.Source.pulled g.K.Sink.output c.args.out.now c.run_by.new.out c.args.script.now c.run_by.new.script _ _ _ c.args.mode _ c.run_by.result c.in-Ok-Begins.ready had c.run_by.ensures.calls;
     }
 
 pub returns-in-Ok-Refused : goal.returns-in-Ok-Refused

@@ -10,6 +10,6 @@ use Rattle.session_lines.proofs.firing.put_fired.Given as goal
 
 abbrev pub invariant-loop-n : goal.invariant-loop-n
 invariant-loop-n g l =
-    (before : Results) → l.watches ≡ noted l.watches.pairs before → LinesSoFar (g.K.Sink.output l.fn.out) (g.K.Sink.output l.out)
-    (firing_lines (accepted l.session.dict).tree (named_relations l.table) before (plain (accepted l.session.dict) l.session.timeline.now) l.watches.pairs)
-    (firing_lines (accepted l.session.dict).tree (named_relations l.table) before (plain (accepted l.session.dict) l.session.timeline.now) (drop l.n l.watches.pairs))
+    (before : Results) → l.watches ≡ noted l.watches.watched before → LinesSoFar (g.K.Sink.output l.fn.out) (g.K.Sink.output l.out)
+    (firing_lines (accepted l.session.dict).tree (named_relations l.table) before (plain (accepted l.session.dict) l.session.timeline.now) l.watches.watched)
+    (firing_lines (accepted l.session.dict).tree (named_relations l.table) before (plain (accepted l.session.dict) l.session.timeline.now) (drop l.n l.watches.watched))

@@ -1,6 +1,6 @@
 use Rattle.std.proofs.Common.{ap}
 use Rattle.graph_session.specs.Rules.{rules}
-use Rattle.interview.proofs.TellingLaws.{desk_output, steps_output}
+use Rattle.interview.proofs.AnsweredLineLaws.{desk_output, steps_output}
 use Rattle.interview.proofs.at_desk.DeskLineHandler.answer_ready.Goals as goal
 
 pub returns : goal.returns

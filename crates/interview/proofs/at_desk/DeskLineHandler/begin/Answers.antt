@@ -2,7 +2,7 @@ use Rattle.answers.specs.Meaning.{answered}
 use Rattle.graph_session.specs.Rules.{rules}
 use Rattle.desk_lines.specs.DeskStepping.{desk_at_start}
 use Rattle.interview.proofs.MeaningLaws.{desk_begins}
-use Rattle.interview.proofs.TellingLaws.{desk_begun_means}
+use Rattle.interview.proofs.AnsweredLineLaws.{desk_begun_means}
 use Rattle.interview.proofs.at_desk.DeskLineHandler.begin.Goals as goal
 
 pub returns-clause-begins : goal.returns-clause-begins

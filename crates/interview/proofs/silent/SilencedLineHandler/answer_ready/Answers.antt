@@ -1,7 +1,7 @@
 use Rattle.std.proofs.Common.{refl, arith}
 use Rattle.fact_watch.specs.Tables.{named_relations}
 use Rattle.interview.specs.Meanings.{silently}
-use Rattle.interview.proofs.TellingLaws.{silent_is_unfailing, silent_output, steps_output}
+use Rattle.interview.proofs.AnsweredLineLaws.{silent_is_unfailing, silent_output, steps_output}
 use Rattle.interview.proofs.silent.SilencedLineHandler.answer_ready.Goals as goal
 
 pub returns : goal.returns

@@ -1,6 +1,6 @@
 use Rattle.std.proofs.Common.{ap}
 use Rattle.graph_session.specs.Rules.{rules}
-use Rattle.interview.proofs.TellingLaws.{session_output, steps_output}
+use Rattle.interview.proofs.AnsweredLineLaws.{session_output, steps_output}
 use Rattle.interview.proofs.watched_session.WatchedSessionLineHandler.answer_ready.Goals as goal
 
 pub returns : goal.returns

@@ -2,7 +2,7 @@ use Rattle.answers.specs.Meaning.{answered}
 use Rattle.graph_session.specs.Rules.{rules}
 use Rattle.session_lines.specs.Stepping.{at_start}
 use Rattle.interview.proofs.MeaningLaws.{session_begins}
-use Rattle.interview.proofs.TellingLaws.{begun_means}
+use Rattle.interview.proofs.AnsweredLineLaws.{begun_means}
 use Rattle.interview.proofs.watched_session.WatchedSessionLineHandler.begin.Goals as goal
 
 pub returns-clause-begins : goal.returns-clause-begins

@@ -1,7 +1,7 @@
--- The talk with a script, pull by pull and put by put: what stood at each pull, and what came of it. What a source says of a pull is
--- `pulled`: it leads from the source before to the source after only by a call with this sink, for so many bytes, which came to this. So
--- where a source came to another by these pulls, it was called so, in this order, and not else, and the sinks are those that stood. By
--- which puts a sink came to the next one, `WroteLines` says.
+-- The exchange with a source of lines and a sink of replies, pull by pull and put by put: what stood at each pull, and what came of it.
+-- What a source says of a pull is `pulled`: it leads from the source before to the source after only by a call with this sink, for so many
+-- bytes, which came to this. So where a source came to another by these pulls, it was called so, in this order, and not else, and the sinks
+-- are those that stood. By which puts a sink came to the next one, `WroteLines` says.
 use Rattle.std.specs.Prelude.{◌≡◌, ◌⊎◌, ℕ, ◌-◌, ◌<◌, ◌≤◌, min, max, false, List, [], ◌∷◌, ◌++◌, All, length}
 use Rattle.fg_io.specs.Outside.{ByPull, Output, Pulled, gave, faulted}
 use Rattle.script_lines.specs.Lines.{ended_lines}
@@ -49,7 +49,7 @@ Came {S} pulled output m out script (piece ∷ earlier) script_now =
     (between : S) × Came pulled output m out script earlier between × PulledBehind pulled output m out earlier between script_now (gave piece)
 
 -- These are all pulls, but for a last one that failed. The sink stood so before the first reply.
-pub record Talk {S K : Type 0} (pulled : ByPull S K) (output : K → Output) (m : Meaning) (out : K) (script script_now : S) (status : Status) : Type 0 where
+pub record Exchange {S K : Type 0} (pulled : ByPull S K) (output : K → Output) (m : Meaning) (out : K) (script script_now : S) (status : Status) : Type 0 where
   pub pieces : List (List ℕ)
   pub between : S
   pub came : Came pulled output m out script pieces between
@@ -73,29 +73,29 @@ Leaves m bytes answers Done = m.answers (answered_lines bytes) ≡ answers
 Leaves m bytes answers other = Unit {0}
 
 -- these are all pulls, and all puts
-pub record WholeTalk {S K : Type 0} (pulled : ByPull S K) (output : K → Output) (m : Meaning) (out out_now : K) (script script_now : S) (status : Status) : Type 0 where
-  pub talk : Talk pulled output m out script script_now status
-  pub told : Told (output out) (output out_now) m (bytes_of talk.pieces) status
+pub record WholeExchange {S K : Type 0} (pulled : ByPull S K) (output : K → Output) (m : Meaning) (out out_now : K) (script script_now : S) (status : Status) : Type 0 where
+  pub exchange : Exchange pulled output m out script script_now status
+  pub told : Told (output out) (output out_now) m (bytes_of exchange.pieces) status
 
 -- and it left these answers
-abbrev pub TalkLeaves : {S K : Type 0} → ByPull S K → (K → Output) → Meaning → K → K → S → S → Answered → Status → Type 0
-TalkLeaves pulled output m out out_now script script_now answers status =
-    (whole : WholeTalk pulled output m out out_now script script_now status) × Leaves m (bytes_of whole.talk.pieces) answers status
+abbrev pub ExchangeLeaves : {S K : Type 0} → ByPull S K → (K → Output) → Meaning → K → K → S → S → Answered → Status → Type 0
+ExchangeLeaves pulled output m out out_now script script_now answers status =
+    (whole : WholeExchange pulled output m out out_now script script_now status) × Leaves m (bytes_of whole.exchange.pieces) answers status
 
--- lines were put, each whole as one piece, and then the talk began
-abbrev pub TalkBehind : {S K : Type 0} → ByPull S K → (K → Output) → Meaning → List (List ℕ) → K → K → S → S → Status → Type 0
-TalkBehind {S} {K} pulled output m front out out_now script script_now status =
-    (begun : K) × WroteLines (output out) (output begun) front × WholeTalk pulled output m begun out_now script script_now status
+-- lines were put, each whole as one piece, and then the exchange began
+abbrev pub ExchangeBehind : {S K : Type 0} → ByPull S K → (K → Output) → Meaning → List (List ℕ) → K → K → S → S → Status → Type 0
+ExchangeBehind {S} {K} pulled output m front out out_now script script_now status =
+    (begun : K) × WroteLines (output out) (output begun) front × WholeExchange pulled output m begun out_now script script_now status
 
 -- or it didn't begin: nothing was put, or the lines as far as a put that failed, and the script wasn't pulled
 abbrev pub MayBegin : {S K : Type 0} → ByPull S K → (K → Output) → Meaning → List (List ℕ) → K → K → S → S → Status → Type 0
 MayBegin pulled output m front out out_now script script_now status =
     ((script_now ≡ script) × ((out_now ≡ out) ⊎ ((status ≡ WriteFault) × WroteSome (output out) (output out_now) front)))
-    ⊎ TalkBehind pulled output m front out out_now script script_now status
+    ⊎ ExchangeBehind pulled output m front out out_now script script_now status
 
 -- ---- laws
 
--- Wherever in a talk a piece came, the script was to go on behind those before it, and the sink stood so: their replies had been put.
+-- Wherever in an exchange a piece came, the script was to go on behind those before it, and the sink stood so: their replies had been put.
 -- So no piece came behind the end, or behind the one in which `quit` ended.
 abbrev pub PiecesFollowReplies : {S K : Type 0} → ByPull S K → (K → Output) → Type 0
 PiecesFollowReplies {S} {K} pulled output =

@@ -1,4 +1,4 @@
--- What a command asks of a fact, of a value and of the answers.
+-- How a value is judged by its fact's type and limits, and what a command asks of the answers.
 use Rattle.std.specs.Prelude.{ℕ, ◌<◌, ◌||◌, Bool, true, false, not, nat_le, nat_lt, List, [], length, slice_get, Option, option_and_then, option_map, unwrap_or}
 use Rattle.std.specs.declared.cmp.Ordering.{Ordering}
 use Rattle.std.specs.declared.cmp.Ordering.TheVariants.{Less, Equal, Greater}

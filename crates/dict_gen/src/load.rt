@@ -13,7 +13,7 @@ use std::alloc::Global;
 
 /// A load: a dictionary, and a script to run over it.
 #[derive(Drop)]
-pub struct Made {
+pub struct Load {
     /// It was accepted with no checks.
     pub dict: Dictionary,
     /// Each line is ended by the byte 10.
@@ -21,7 +21,7 @@ pub struct Made {
 }
 
 /// The load with `n` sums, from 1 to 1,000. That the dictionary has no fault is proved, so none is answered.
-pub fn make(alloc: Global, n: u32) -> Result<Made, NoMemory>
+pub fn make(alloc: Global, n: u32) -> Result<Load, NoMemory>
     requires some { 1 ≤ n }
     requires most { n ≤ 1000 }
     ensures tree { IfOk result (λ made. (accepted made.dict).tree ≡ chain n) }
@@ -31,5 +31,5 @@ pub fn make(alloc: Global, n: u32) -> Result<Made, NoMemory>
 {
     let script = script(alloc, n)?;
     let dict = of_faultless_source(alloc, source(alloc, n)?)?;
-    Ok(Made { dict, script })
+    Ok(Load { dict, script })
 }

@@ -18,7 +18,7 @@ use Rattle.shared_desk.specs.DeskView.{DeskView, StandsFor, rules_of}
 use Rattle.desk_lines.specs.DeskAnswering.{DeskAnsweredAs, StandsAt}
 use Rattle.desk_lines.specs.DeskStepping.{DeskState, desk_at_start, desk_open, desk_state_after}
 use Rattle.interview.specs.Meanings.{Behind, Meaning, of_desk, of_session, silently}
-use Rattle.interview.specs.Telling.{GoesOn, LineOutputAs}
+use Rattle.interview.specs.AnsweredLines.{GoesOn, LineOutputAs}
 use Rattle.interview.proofs.MeaningLaws.{desk_begins, desk_behind, desk_quit, session_begins, session_behind, session_quit, silently_begins, silently_behind, silently_quits}
 
 -- ---- a session
