@@ -1,16 +1,19 @@
 -- A node with many operands, one operand after another, as loops take them.
-use Rattle.std.specs.Prelude.{◌≡◌, ℕ, ◌+◌, pos, true, false, List, [], fold, Option, Some, None, Result, Ok}
+use Rattle.std.specs.Prelude.{◌≡◌, ℕ, ◌+◌, pos, Bool, true, false, List, [], fold, Option, Some, None, Result, Ok, if◌then◌else◌}
+use Rattle.std.specs.Ordering.{is_gt, is_lt}
 use Rattle.fact_values.specs.declared.fault.ValueFault.{ValueFault}
 use Rattle.fact_values.specs.declared.value.Value.{Value}
 use Rattle.fact_values.specs.declared.value.Value.TheVariants.{Int}
+use Rattle.fact_values.specs.Values.{order_of}
 use Rattle.dict_source.specs.declared.operators.ManyOp.{ManyOp}
 use Rattle.dict_source.specs.declared.operators.ManyOp.TheVariants as many_op
 use Rattle.three_state.specs.Folds.{junction_next, verdict_next}
 use Rattle.three_state.specs.Results.{after_verdict, all_of, any_of, verdict_of}
 use Rattle.three_state.specs.declared.res.Res.{Res}
 use Rattle.three_state.specs.declared.res.Res.TheVariants.{Complete, Placeholder}
-use Rattle.evaluation.specs.Operations.{greater, lesser}
 use Rattle.operations.specs.Sums.{added, calls_in, difference_of_seen, subtracted, sum_of_seen}
+use Rattle.operations.specs.declared.gathered.Extreme.{Extreme}
+use Rattle.operations.specs.declared.gathered.Extreme.TheVariants as extreme
 use Rattle.operations.specs.declared.gathered.Gathered.{Gathered}
 use Rattle.operations.specs.declared.gathered.Gathered.TheVariants.{Added, Subtracted, Greatest, Least}
 use Rattle.operations.specs.declared.accumulator.Accumulator.{Accumulator}
@@ -25,13 +28,14 @@ calls_of (Added sum) = calls_in sum
 calls_of (Subtracted sum) = calls_in sum
 calls_of _ = 0
 
-abbrev pub greater_next : Option Value → Value → Option Value
-greater_next None v = Some v
-greater_next (Some kept) v = Some (greater kept v)
+-- the next value is kept in place of this one; of two that are equal, the earlier one is kept
+abbrev pub is_beyond : Extreme → Value → Value → Bool
+is_beyond extreme.Greatest kept v = is_lt (order_of kept v)
+is_beyond extreme.Least kept v = is_gt (order_of kept v)
 
-abbrev pub lesser_next : Option Value → Value → Option Value
-lesser_next None v = Some v
-lesser_next (Some kept) v = Some (lesser kept v)
+abbrev pub extreme_next : Extreme → Option Value → Value → Option Value
+extreme_next extreme None v = Some v
+extreme_next extreme (Some kept) v = Some (if is_beyond extreme kept v then v else kept)
 
 abbrev pub extreme_end : Option Value → Value
 extreme_end None = Int (pos 0)
@@ -40,8 +44,8 @@ extreme_end (Some v) = v
 abbrev pub gathered_next : Gathered → Value → Gathered
 gathered_next (Added sum) v = Added (added sum v)
 gathered_next (Subtracted sum) v = Subtracted (subtracted sum v)
-gathered_next (Greatest v) w = Greatest (greater_next v w)
-gathered_next (Least v) w = Least (lesser_next v w)
+gathered_next (Greatest v) w = Greatest (extreme_next extreme.Greatest v w)
+gathered_next (Least v) w = Least (extreme_next extreme.Least v w)
 
 -- an operand that has no value leaves the values as they were
 abbrev pub gathered_after : Gathered → Res → Gathered

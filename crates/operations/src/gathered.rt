@@ -1,12 +1,19 @@
 // What an operation with many operands keeps of their values.
 ghost use Rattle.std.specs.Prelude.{◌≡◌, ◌<◌, ◌^◌, IsErr, OnErr, OnOk};
 ghost use Rattle.fact_values.specs.Values.{HoldsMemory};
-ghost use Rattle.operations.specs.ManyFolds.{calls_of, extreme_end, gathered_end, gathered_next, greater_next, lesser_next};
+ghost use Rattle.operations.specs.ManyFolds.{calls_of, extreme_end, extreme_next, gathered_end, gathered_next, is_beyond};
 
 use crate::numbers::order;
 use crate::sum::Summed;
 use fact_values::{NoMemory, Value, ValueFault, Whole};
 use std::alloc::Global;
+
+/// Which of the values seen is kept.
+#[derive(Clone, Copy)]
+pub enum Extreme {
+    Greatest,
+    Least,
+}
 
 /// What an operation with many operands keeps of the values seen.
 #[derive(Drop)]
@@ -33,8 +40,8 @@ impl Gathered {
                 sum.subtract(&value);
                 drop(value);
             }
-            Gathered::Greatest(greatest) => keep_greater(greatest, value),
-            Gathered::Least(least) => keep_lesser(least, value),
+            Gathered::Greatest(greatest) => keep(Extreme::Greatest, greatest, value),
+            Gathered::Least(least) => keep(Extreme::Least, least, value),
         }
     }
 
@@ -49,8 +56,8 @@ impl Gathered {
         match self {
             Gathered::Added(sum) => sum.add(value),
             Gathered::Subtracted(sum) => sum.subtract(value),
-            Gathered::Greatest(greatest) => keep_greater_lent(alloc, greatest, value)?,
-            Gathered::Least(least) => keep_lesser_lent(alloc, least, value)?,
+            Gathered::Greatest(greatest) => keep_lent(alloc, Extreme::Greatest, greatest, value)?,
+            Gathered::Least(least) => keep_lent(alloc, Extreme::Least, least, value)?,
         }
         Ok(())
     }
@@ -68,72 +75,51 @@ impl Gathered {
     }
 }
 
-/// The greater one is kept, and the earlier of two that are equal.
-fn keep_greater(greatest: &mut Option<Value>, value: Value)
-    ensures { greatest.new ≡ greater_next greatest.old value }
+/// Whether the next value is kept in place of this one. Of two that are equal, the earlier one is kept.
+fn goes_beyond(extreme: Extreme, kept: &Value, next: &Value) -> bool
+    ensures { result ≡ is_beyond extreme kept.now next.now }
 {
-    match greatest {
-        Some(kept) => {
-            if order(kept, &value).is_lt() {
-                *kept = value;
-            } else {
-                drop(value);
-            }
-        }
-        None => *greatest = Some(value),
+    let order = order(kept, next);
+    match extreme {
+        Extreme::Greatest => order.is_lt(),
+        Extreme::Least => order.is_gt(),
     }
 }
 
-fn keep_lesser(least: &mut Option<Value>, value: Value)
-    ensures { least.new ≡ lesser_next least.old value }
+fn keep(extreme: Extreme, so_far: &mut Option<Value>, value: Value)
+    ensures { so_far.new ≡ extreme_next extreme so_far.old value }
 {
-    match least {
+    match so_far {
         Some(kept) => {
-            if order(kept, &value).is_gt() {
+            if goes_beyond(extreme, kept, &value) {
                 *kept = value;
             } else {
                 drop(value);
             }
         }
-        None => *least = Some(value),
+        None => *so_far = Some(value),
     }
 }
 
 /// The same of a value that stays where it is, and is copied where it is kept.
 #[inline(never)]
-fn keep_greater_lent(
+fn keep_lent(
     alloc: Global,
-    greatest: &mut Option<Value>,
+    extreme: Extreme,
+    so_far: &mut Option<Value>,
     value: &Value,
 ) -> Result<(), NoMemory>
-    ensures ok { OnOk result (greatest.new ≡ greater_next greatest.old value.now) }
-    ensures unchanged { OnErr result (greatest.new ≡ greatest.old) }
+    ensures ok { OnOk result (so_far.new ≡ extreme_next extreme so_far.old value.now) }
+    ensures unchanged { OnErr result (so_far.new ≡ so_far.old) }
     ensures memory { IsErr result → HoldsMemory value.now }
 {
-    match greatest {
+    match so_far {
         Some(kept) => {
-            if order(kept, value).is_lt() {
+            if goes_beyond(extreme, kept, value) {
                 *kept = value.copy(alloc)?;
             }
         }
-        None => *greatest = Some(value.copy(alloc)?),
-    }
-    Ok(())
-}
-
-#[inline(never)]
-fn keep_lesser_lent(alloc: Global, least: &mut Option<Value>, value: &Value) -> Result<(), NoMemory>
-    ensures ok { OnOk result (least.new ≡ lesser_next least.old value.now) }
-    ensures unchanged { OnErr result (least.new ≡ least.old) }
-    ensures memory { IsErr result → HoldsMemory value.now }
-{
-    match least {
-        Some(kept) => {
-            if order(kept, value).is_gt() {
-                *kept = value.copy(alloc)?;
-            }
-        }
-        None => *least = Some(value.copy(alloc)?),
+        None => *so_far = Some(value.copy(alloc)?),
     }
     Ok(())
 }
