@@ -1,3 +1,4 @@
 pub mod GlobalLaws
+pub mod NumberLaws
 pub mod PlaceLaws
 pub mod SlotLaws

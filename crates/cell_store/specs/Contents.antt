@@ -1,5 +1,5 @@
 -- What a store keeps.
-use Rattle.std.specs.Prelude.{ℕ, Bool, false, not, Option, Some, None, refl}
+use Rattle.std.specs.Prelude.{ℕ, Bool, false, not, Option, Some, None, option_map, refl}
 use Rattle.std.specs.Coded.{Coded, code_by, coded×, coded_ℕ}
 use Rattle.std.specs.FinMap as map
 use Rattle.fact_values.specs.contracts.slot.Slot as slot
@@ -8,7 +8,6 @@ use Rattle.three_state.specs.Equality.{res_same}
 use Rattle.cell_store.specs.SlotOrder.{slot_cmp}
 use Rattle.cell_store.specs.contracts.cell.Cell as cell
 use Rattle.cell_store.specs.declared.cell.Cell.{Cell}
-use Rattle.cell_store.specs.declared.cell.Cell.{Cell}
 
 -- a cell at each slot of some
 abbrev pub Cells : Type 0
@@ -16,6 +15,10 @@ Cells = map.FinMap slot_cmp Cell
 
 abbrev pub no_cells : Cells
 no_cells = map.empty
+
+-- the result at a global fact
+abbrev pub result_of : Cells → ℕ → Option Res
+result_of m fact = option_map (λ c. c.res) (map.get m (record { fact = fact; member = 0 }))
 
 -- there is a cell, of another result than this one
 abbrev pub has_other : Option Cell → Res → Bool

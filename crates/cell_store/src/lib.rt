@@ -2,7 +2,9 @@
 #![tactic(auto)]
 
 mod cell;
+mod globals;
 pub mod laws;
+mod number;
 mod placed;
 mod store;
 

@@ -1,24 +1,27 @@
 // The cells of slots: those of global facts by the facts' numbers, and all others in places.
-ghost use Rattle.std.specs.Prelude.{◌≡◌, ◌-◌, ◌<◌, ◌≤◌, ℕ, None, max, is_some, if◌then◌else◌, option_map, option_copied, slice_index_or, IfOk, OnErr, OnOk, IsOk};
+ghost use Rattle.std.specs.Prelude.{◌≡◌, ◌-◌, ◌<◌, ◌≤◌, None, Some, max, is_some, if◌then◌else◌, option_map, option_copied, ◌≢◌, ℤ, IfOk, IfSome, IsNone, OnErr, OnOk, IsOk};
 ghost use Rattle.std.specs.FinMap as map;
-ghost use Rattle.cell_store.specs.Contents.{has_other, no_cells};
-ghost use Rattle.cell_store.specs.Globals.{is_global};
+ghost use Rattle.fact_values.specs.declared.value.Value.TheVariants as value;
+ghost use Rattle.three_state.specs.declared.res.Res.TheVariants.{Complete};
+ghost use Rattle.cell_store.specs.Contents.{has_other, no_cells, result_of};
+ghost use Rattle.cell_store.specs.Numbers.{number_of};
 ghost use Rattle.cell_store.specs.declared.cell.Cell.{Cell};
 
 use crate::cell::{Cell, Displaced};
+use crate::globals::GlobalCells;
+use crate::number::CellNumber;
 use crate::placed::Placed;
-use fact_values::{NoMemory, Slot};
+use fact_values::{Dollar, NoMemory, Slot, Whole};
 use std::alloc::Global;
 use std::marker::Model;
-use std::mem;
 use three_state::Res;
 
 /// A result and a stamp at each slot of some. Contracts see a finite map from slots to cells, and
 /// beside it for how many new slots there is room.
 #[derive(Drop)]
 pub struct Store {
-    /// The cells of global facts, by the facts' numbers.
-    globals: Vec<Option<Cell>>,
+    /// The cells of global facts.
+    globals: GlobalCells,
     /// Those of all other slots, and the room.
     placed: Placed,
 }
@@ -32,7 +35,7 @@ impl Model for Store {
     ghost coded = { contents_code };
 
     ghost view = { λ s. record {
-      cells = with_globals s.globals.items s.placed.cells;
+      cells = with_globals s.globals s.placed.cells;
       room = s.placed.room;
     } };
 }
@@ -45,7 +48,7 @@ impl Store {
         ensures room { result.room ≡ 0 }
     {
         Store {
-            globals: Vec::new(alloc),
+            globals: GlobalCells::new(alloc),
             placed: Placed::new(alloc),
         }
     }
@@ -58,7 +61,7 @@ impl Store {
         ensures room { IfOk result (λ store. store.room ≡ 0) }
     {
         Ok(Store {
-            globals: no_globals(alloc, facts)?,
+            globals: GlobalCells::with_facts(alloc, facts)?,
             placed: Placed::new(alloc),
         })
     }
@@ -83,16 +86,14 @@ impl Store {
         ensures room { self.new.room
             ≡ (if is_some result.cell then self.old.room else self.old.room - 1) }
     {
-        if !is_global(&self.globals, slot) {
+        if !self.globals.has(slot) {
             return self.placed.put(slot, res, stamp);
         }
-        let moved = is_other(self.cell(slot), &res);
-        let new = Some(Cell { res, stamp });
-        let cell = mem::replace(&mut self.globals[slot.fact as usize], new);
-        if cell.is_none() {
+        let displaced = self.globals.put(slot.fact, res, stamp);
+        if displaced.cell.is_none() {
             self.placed.use_room();
         }
-        Displaced { cell, moved }
+        displaced
     }
 
     /// Takes the cell of a slot away, and hands back the result that was there.
@@ -101,10 +102,10 @@ impl Store {
         ensures old { result ≡ option_map (λ c. c.res) (map.get self.old.cells slot) }
         ensures new { self.new ≡ record self.old { cells = map.remove self.old.cells slot } }
     {
-        if !is_global(&self.globals, slot) {
+        if !self.globals.has(slot) {
             return self.placed.take(slot);
         }
-        match mem::replace(&mut self.globals[slot.fact as usize], None) {
+        match self.globals.take(slot.fact) {
             Some(old) => Some(old.res),
             None => None,
         }
@@ -128,39 +129,48 @@ impl Store {
     fn cell(&self, slot: Slot) -> Option<&Cell>
         ensures { option_copied result ≡ map.get self.now.cells slot }
     {
-        if !is_global(&self.globals, slot) {
+        if !self.globals.has(slot) {
             return self.placed.cell(slot);
         }
-        self.globals[slot.fact as usize].as_ref()
+        self.globals.cell(slot.fact)
     }
-}
 
-// Whether the cell of a slot is among those of global facts.
-fn is_global(globals: &[Option<Cell>], slot: Slot) -> bool
-    ensures { result ≡ is_global globals.now slot }
-{
-    (slot.fact as usize) < globals.len() && slot.member == 0
-}
-
-// Whether there is a cell, of another result.
-fn is_other(cell: Option<&Cell>, res: &Res) -> bool
-    ensures { result ≡ has_other (option_copied cell.entry) res.now }
-{
-    match cell {
-        None => false,
-        Some(cell) => cell.is_other(res),
+    /// The result at a global fact, where that is a complete amount of money. It reads no cell.
+    #[inline(always)]
+    #[tactic(auto, using(crate::proofs::NumberLaws::read))]
+    pub fn amount(&self, fact: u32) -> Option<Dollar>
+        ensures some { IfSome result (λ cents. result_of self.now.cells fact ≡ Some (Complete (value.Dollar cents))) }
+        ensures none { IsNone result → (cents : ℤ) → result_of self.now.cells fact ≢ Some (Complete (value.Dollar cents)) }
+    {
+        self.number(fact).amount()
     }
-}
 
-// No cell for any fact up to this number.
-#[tactic(auto, using(crate::proofs::GlobalLaws::globals))]
-fn no_globals(alloc: Global, facts: usize) -> Result<Vec<Option<Cell>>, NoMemory>
-    ensures { IfOk result (λ globals. (fact : ℕ) → slice_index_or globals.items fact None ≡ None) }
-{
-    let count = facts.saturating_add(1);
-    let mut globals = Vec::with_capacity(alloc, count)?;
-    for _n in 0..count {
-        globals.push(None)?;
+    /// The result at a global fact, where that is a complete whole number. It reads no cell.
+    #[inline(always)]
+    #[tactic(auto, using(crate::proofs::NumberLaws::read))]
+    pub fn whole(&self, fact: u32) -> Option<Whole>
+        ensures some { IfSome result (λ n. result_of self.now.cells fact ≡ Some (Complete (value.Int n))) }
+        ensures none { IsNone result → (n : ℤ) → result_of self.now.cells fact ≢ Some (Complete (value.Int n)) }
+    {
+        self.number(fact).whole()
     }
-    Ok(globals)
+
+    #[inline(always)]
+    #[tactic(auto, using(crate::proofs::NumberLaws::found))]
+    fn number(&self, fact: u32) -> CellNumber
+        ensures { result ≡ number_of (map.get self.now.cells (record { fact = fact; member = 0 })) }
+    {
+        match self.globals.number(fact) {
+            Some(number) => number,
+            None => self.cell_number(fact),
+        }
+    }
+
+    // The same by the cell, for a fact beyond those with numbers.
+    #[inline(never)]
+    fn cell_number(&self, fact: u32) -> CellNumber
+        ensures { result ≡ number_of (map.get self.now.cells (record { fact = fact; member = 0 })) }
+    {
+        CellNumber::of_cell(self.cell(Slot { fact, member: 0 }))
+    }
 }

@@ -1,8 +1,9 @@
 //! Tests of `node_eval`: nodes over hand-made cells.
-ghost use Rattle.std.specs.Prelude.{◌≡◌, ◌<◌};
+ghost use Rattle.std.specs.Prelude.{◌≡◌, ◌+◌, ◌<◌, slice_get};
+ghost use Rattle.node_eval.specs.Globals.{amount_of, global_result, whole_of};
 
 use dict_source::{ManyOp, PickOp};
-use fact_values::{Members, NoMemory, Slot, Value, Whole};
+use fact_values::{Dollar, Members, NoMemory, Slot, Value, Whole};
 use node_eval::{Cells, Node, NodeRead, ResolvedPath, eval};
 use std::alloc::Global;
 use std::marker::Brand;
@@ -26,6 +27,36 @@ impl Cells for Row {
         ensures { option_copied result ≡ slice_get self.now.cells.items (slot.fact + slot.member) }
     {
         self.cells.get(slot.fact as usize + slot.member as usize)
+    }
+
+    fn amount(&self, fact: u32) -> Option<Dollar>
+        ensures { result ≡ amount_of (global_result (λ s. slice_get self.now.cells.items (s.fact + s.member)) fact) }
+    {
+        amount_in(self.cell(Slot { fact, member: 0 })?)
+    }
+
+    fn whole(&self, fact: u32) -> Option<Whole>
+        ensures { result ≡ whole_of (global_result (λ s. slice_get self.now.cells.items (s.fact + s.member)) fact) }
+    {
+        whole_in(self.cell(Slot { fact, member: 0 })?)
+    }
+}
+
+fn amount_in(res: &Res) -> Option<Dollar>
+    ensures { result ≡ amount_of res.now }
+{
+    match res {
+        Res::Complete(Value::Dollar(amount)) => Some(*amount),
+        _ => None,
+    }
+}
+
+fn whole_in(res: &Res) -> Option<Whole>
+    ensures { result ≡ whole_of res.now }
+{
+    match res {
+        Res::Complete(Value::Int(number)) => Some(*number),
+        _ => None,
     }
 }
 

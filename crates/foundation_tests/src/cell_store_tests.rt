@@ -4,7 +4,7 @@ ghost use Rattle.std.specs.Prelude.{◌≡◌, ◌<◌, IsTrue, None};
 ghost use Rattle.std.specs.FinMap as map;
 
 use cell_store::{Cell, Displaced, Store};
-use fact_values::{Slot, ValueFault};
+use fact_values::{Dollar, Slot, Value, ValueFault, Whole};
 use std::alloc::Global;
 use three_state::Res;
 
@@ -122,4 +122,44 @@ fn replaces_by_numbers(alloc: Global) -> bool {
 fn a_put_hands_the_old_cell_back(rt: HostRuntime) {
     assert!(rt; is_replaced(&mut Store::new(rt.alloc())));
     assert!(rt; replaces_by_numbers(rt.alloc()));
+}
+
+fn amount(cents: i64) -> Res {
+    match Dollar::new(cents) {
+        Some(amount) => Res::Complete(Value::Dollar(amount)),
+        None => Res::Incomplete,
+    }
+}
+
+fn number(n: i64) -> Res {
+    match Whole::new(n) {
+        Some(n) => Res::Complete(Value::Int(n)),
+        None => Res::Incomplete,
+    }
+}
+
+// Whether the store gives these numbers for a result that was put.
+fn gives(store: &mut Store, res: Res, cents: Option<i64>, whole: Option<i64>) -> bool {
+    let _ = put(store, WHOLE, res, 1);
+    store.amount(WHOLE.fact).map(|a| a.cents()) == cents
+        && store.whole(WHOLE.fact).map(|n| n.get()) == whole
+}
+
+fn gives_numbers(store: &mut Store) -> bool {
+    gives(store, amount(250), Some(250), None)
+        && gives(store, number(7), None, Some(7))
+        && gives(store, Res::Incomplete, None, None)
+}
+
+fn gives_numbers_of_a_column(alloc: Global) -> bool {
+    match Store::with_facts(alloc, 3) {
+        Ok(mut store) => gives_numbers(&mut store),
+        Err(_) => false,
+    }
+}
+
+#[test]
+fn a_complete_number_is_read_by_its_fact(rt: HostRuntime) {
+    assert!(rt; gives_numbers(&mut Store::new(rt.alloc())));
+    assert!(rt; gives_numbers_of_a_column(rt.alloc()));
 }

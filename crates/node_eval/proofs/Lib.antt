@@ -1,4 +1,5 @@
 pub mod DecideLaws
+pub mod FrontLaws
 pub mod GlobalLaws
 pub mod MemoryLaws
 pub mod RestLaws

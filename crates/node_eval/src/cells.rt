@@ -4,8 +4,9 @@ ghost use Rattle.fact_values.specs.declared.slot.Slot.{Slot};
 ghost use Rattle.three_state.specs.declared.res.Res.{Res};
 ghost use Rattle.three_state.specs.declared.res.Res.TheVariants.{Incomplete};
 ghost use Rattle.evaluation.specs.Results.{result_at};
+ghost use Rattle.node_eval.specs.Globals.{amount_of, global_result, whole_of};
 
-use fact_values::Slot;
+use fact_values::{Dollar, Slot, Whole};
 use three_state::Res;
 
 /// Where the results of slots are looked up.
@@ -16,6 +17,14 @@ pub trait Cells {
     /// The cell of a slot.
     fn cell(&self, slot: Slot) -> Option<&Res>
         ensures { option_copied result ≡ results self.now slot };
+
+    /// The result of a fact that stands once, where that is a complete amount of money.
+    fn amount(&self, fact: u32) -> Option<Dollar>
+        ensures { result ≡ amount_of (global_result (results self.now) fact) };
+
+    /// The result of a fact that stands once, where that is a complete whole number.
+    fn whole(&self, fact: u32) -> Option<Whole>
+        ensures { result ≡ whole_of (global_result (results self.now) fact) };
 }
 
 /// What is read of a fact at a member: a slot without a cell counts as incomplete.

@@ -1,12 +1,15 @@
 // The numbers at the front of a sum.
-ghost use Rattle.std.specs.Prelude.{◌≡◌, ◌+◌, ◌<◌, ◌^◌, true, false, IfSome};
+ghost use Rattle.std.specs.Prelude.{◌≡◌, ◌+◌, ◌<◌, ◌^◌, true};
 ghost use Rattle.dict_source.specs.declared.operators.ManyOp.TheVariants as many_op;
+ghost use Rattle.fact_values.specs.declared.value.Value.TheVariants as value;
+ghost use Rattle.three_state.specs.declared.res.Res.TheVariants.{Complete};
 ghost use Rattle.operations.specs.ManyFolds.{many_end, many_start, saw};
+ghost use Rattle.operations.specs.NumberRuns.{are_amounts, are_wholes};
 
 use crate::many_operands::ManyFold;
 use crate::sum::{dollar_of, whole_of};
 use crate::verdict::after_verdict;
-use fact_values::{Total, Value};
+use fact_values::{Dollar, Total, Whole};
 use std::marker::Model;
 use three_state::{Res, Strict};
 
@@ -33,47 +36,56 @@ impl Model for NumberRun {
 }
 
 impl NumberRun {
-    /// The first operand was seen, if it is a complete number.
+    /// The first operand was seen, an amount of money.
     #[tactic(auto, unfolding(crate::specs::ManyFolds::accumulator_start, crate::specs::ManyFolds::accumulator_next))]
-    pub fn first(operand: &Res) -> Option<NumberRun>
-        ensures { IfSome result (λ run. run ≡ saw (many_start many_op.Add) operand.now) }
+    pub fn of_amount(first: Dollar) -> NumberRun
+        ensures seen { result ≡ saw (many_start many_op.Add) (Complete (value.Dollar first)) }
+        ensures amounts { are_amounts result.kept ≡ true }
     {
-        match operand {
-            Res::Complete(Value::Dollar(amount)) => Some(NumberRun {
-                count: 1,
-                are_amounts: true,
-                total: Total::new(amount.cents()),
-            }),
-            Res::Complete(Value::Int(number)) => Some(NumberRun {
-                count: 1,
-                are_amounts: false,
-                total: Total::new(number.get()),
-            }),
-            _ => None,
+        NumberRun {
+            count: 1,
+            are_amounts: true,
+            total: Total::new(first.cents()),
         }
     }
 
-    /// Sees the next operand, if it is a complete number of the same type, and says whether it is.
-    #[inline(always)]
-    #[tactic(auto, unfolding(crate::specs::ManyFolds::accumulator_next))]
-    pub fn see(&mut self, operand: &Res) -> bool
-        requires few { self.old.count + 1 < 2 ^ 64 }
-        ensures seen { result ≡ true → self.new ≡ saw self.old operand.now }
-        ensures unchanged { result ≡ false → self.new ≡ self.old }
+    /// The first operand was seen, a whole number.
+    #[tactic(auto, unfolding(crate::specs::ManyFolds::accumulator_start, crate::specs::ManyFolds::accumulator_next))]
+    pub fn of_whole(first: Whole) -> NumberRun
+        ensures seen { result ≡ saw (many_start many_op.Add) (Complete (value.Int first)) }
+        ensures wholes { are_wholes result.kept ≡ true }
     {
-        match operand {
-            Res::Complete(Value::Dollar(amount)) if self.are_amounts => {
-                self.total.plus(amount.cents());
-                self.count += 1;
-                true
-            }
-            Res::Complete(Value::Int(number)) if !self.are_amounts => {
-                self.total.plus(number.get());
-                self.count += 1;
-                true
-            }
-            _ => false,
+        NumberRun {
+            count: 1,
+            are_amounts: false,
+            total: Total::new(first.get()),
         }
+    }
+
+    /// Sees the next operand, an amount of money after others.
+    #[inline(always)]
+    #[tactic(auto, using(crate::proofs::RunLaws::runs))]
+    pub fn see_amount(&mut self, amount: Dollar)
+        requires few { self.old.count + 1 < 2 ^ 64 }
+        requires amounts { are_amounts self.old.kept ≡ true }
+        ensures seen { self.new ≡ saw self.old (Complete (value.Dollar amount)) }
+        ensures amounts { are_amounts self.new.kept ≡ true }
+    {
+        self.total.plus(amount.cents());
+        self.count += 1;
+    }
+
+    /// Sees the next operand, a whole number after others.
+    #[inline(always)]
+    #[tactic(auto, using(crate::proofs::RunLaws::runs))]
+    pub fn see_whole(&mut self, number: Whole)
+        requires few { self.old.count + 1 < 2 ^ 64 }
+        requires wholes { are_wholes self.old.kept ≡ true }
+        ensures seen { self.new ≡ saw self.old (Complete (value.Int number)) }
+        ensures wholes { are_wholes self.new.kept ≡ true }
+    {
+        self.total.plus(number.get());
+        self.count += 1;
     }
 
     /// The result of an Add that has no other operands.

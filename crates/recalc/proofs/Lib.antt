@@ -2,6 +2,7 @@ pub mod BetweenLaws
 pub mod EngineLaws
 pub mod EvaluatingLaws
 pub mod ForgettingLaws
+pub mod LiveNumbers
 pub mod MarkingLaws
 pub mod Outcomes
 pub mod PlacingLaws

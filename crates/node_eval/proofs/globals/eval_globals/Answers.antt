@@ -9,12 +9,12 @@ use Rattle.operations.proofs.ManyLaws.{many_from-start}
 use Rattle.node_eval.specs.Globals.{global_result}
 use Rattle.node_eval.proofs.globals.eval_globals.Goals as goal
 
-pub returns-in-Some-clause-value : goal.returns-in-Some-clause-value
-returns-in-Some-clause-value g c =
+pub returns-in-Add-clause-value : goal.returns-in-Add-clause-value
+returns-in-Add-clause-value g c =
     let rs : List Res = map (global_result (g.C.Cells.results c.args.cells.now)) c.args.facts.now in
-    IfOk-weaker c.add_numbers.result (λ (r : Res). r ≡ many_from (many_start many_op.Add) rs) (λ (r : Res). r ≡ many_of c.args.op rs)
+    IfOk-weaker c.add_globals.result (λ (r : Res). r ≡ many_from (many_start many_op.Add) rs) (λ (r : Res). r ≡ many_of c.args.op rs)
     (λ r is. is ∙ many_from-start many_op.Add rs ∙ sym (ap (λ (op : ManyOp). many_of op rs) c.in-Add.is))
-    c.add_numbers.ensures.value
+    c.add_globals.ensures.value
 
 pub returns-clause-value : goal.returns-clause-value
 returns-clause-value g c =

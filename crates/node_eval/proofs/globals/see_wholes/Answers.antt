@@ -1,0 +1,34 @@
+use Rattle.std.proofs.Common.{◌≡◌, [], ℕ, Some, None, drop, map, ap, ◌∙◌, arith}
+use Rattle.std.specs.Prelude.{slice_index}
+use Rattle.std.proofs.lemmas.List.{drop_all}
+use Rattle.three_state.specs.declared.res.Res.{Res}
+use Rattle.three_state.specs.declared.res.Res.TheVariants.{Complete}
+use Rattle.fact_values.specs.declared.value.Value.TheVariants as value
+use Rattle.node_eval.specs.Globals.{global_result, leading, whole_of}
+use Rattle.node_eval.proofs.FrontLaws.{whole_is, no_more, one_more, one_seen}
+use Rattle.node_eval.proofs.globals.see_wholes.Goals as goal
+
+pub returns-in_default-clause-front : goal.returns-in_default-clause-front
+returns-in_default-clause-front g c =
+    let result : ℕ → Res = global_result (g.C.Cells.results c.args.cells.now) in
+    let none : None ≡ whole_of (result (slice_index c.args.facts.now c.loop-seen.seen)) = cc in
+    omega (arith, c.loop-seen.invariant.front, no_more whole_of result c.args.facts.now c.loop-seen.seen c.loop-seen-test.true none)
+
+pub loop-seen-preserved : goal.loop-seen-preserved
+loop-seen-preserved g c =
+    let result : ℕ → Res = global_result (g.C.Cells.results c.args.cells.now) in
+    let some : Some c.in-Some.number ≡ whole_of (result (slice_index c.args.facts.now c.loop-seen.seen)) = c.in-Some.ensures in
+    record {
+      seen = one_seen result c.args.facts.now c.loop-seen.seen c.loop-seen.run c.see_whole.new.self (Complete (value.Int c.in-Some.number)) c.loop-seen-test.true c.see_whole.ensures.seen (whole_is _ _ some) ∙ c.loop-seen.invariant.seen;
+      count = omega (arith, ap (λ s. s.count) c.see_whole.ensures.seen, c.loop-seen.invariant.count);
+      wholes = c.see_whole.ensures.wholes;
+      front = omega (arith, c.loop-seen.invariant.front, one_more whole_of result c.args.facts.now c.loop-seen.seen c.in-Some.number c.loop-seen-test.true some);
+      within = omega (arith, c.loop-seen-test.true);
+      steps = omega (arith, c.tick.ensures, c.loop-seen.invariant.steps);
+    }
+
+pub returns-clause-front : goal.returns-clause-front
+returns-clause-front g c =
+    let result : ℕ → Res = global_result (g.C.Cells.results c.args.cells.now) in
+    let none : drop c.loop-seen.seen c.args.facts.now ≡ [] = drop_all c.loop-seen.seen c.args.facts.now c.loop-seen-test.false in
+    omega (arith, c.loop-seen.invariant.front, ap (λ l. leading whole_of (map result l)) none)
