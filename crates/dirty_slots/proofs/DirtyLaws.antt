@@ -7,7 +7,7 @@ use Rattle.std.specs.declared.cmp.Ordering.TheVariants.{Less, Equal, Greater}
 use Rattle.std.proofs.lemmas.Bool.Decides.{nat_tests}
 use Rattle.common_lemmas.proofs.Numbers.{nat_eq-comm}
 use Rattle.common_lemmas.proofs.Bools.{cond_or}
-use Rattle.dirty_slots.specs.Waiting.{dirty_same, DirtySlots, is_among}
+use Rattle.dirty_slots.specs.Slots.{dirty_same, DirtySlots, is_among}
 use Rattle.dirty_slots.specs.declared.dirty_slot.DirtySlot.{DirtySlot}
 
 abbrev pub dirty_cmp : DirtySlot → DirtySlot → Ordering

@@ -1,4 +1,4 @@
 pub mod BitLaws
 pub mod DirtyLaws
 pub mod MarkLaws
-pub mod NotedLaws
+pub mod RowLaws

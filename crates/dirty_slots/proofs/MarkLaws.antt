@@ -5,11 +5,11 @@ use Rattle.std.proofs.lemmas.Bool.{and_right}
 use Rattle.std.proofs.lemmas.Bool.Decides.{nat_tests}
 use Rattle.common_lemmas.proofs.Bools.{and_true, both_right, or_assoc}
 use Rattle.std.proofs.lemmas.List.Elements.{All-head, All-tail}
-use Rattle.std.proofs.lemmas.List.Folds.{list_any-append}
 use Rattle.std.specs.Prelude.{if◌then◌else◌, IfNone, IfSome}
+use Rattle.dirty_slots.specs.Waiting.{either}
 use Rattle.dirty_slots.specs.PlaceBits.{is_one}
 use Rattle.dirty_slots.specs.Places.{AreRising, Each, is_at_any, is_before, marked}
-use Rattle.dirty_slots.specs.Waiting.{dirty_same, DirtySlots, is_among, is_dirty}
+use Rattle.dirty_slots.specs.Slots.{dirty_same, DirtySlots, is_among, is_dirty, Test}
 use Rattle.dirty_slots.specs.declared.dirty_slot.DirtySlot.{DirtySlot}
 use Rattle.dirty_slots.proofs.DirtyLaws.{dirty_turn}
 
@@ -70,8 +70,8 @@ waits_marked marks (s ∷ ss) q = at (marks 0) (waits_marked (λ i. marks (suc i
     at false e = e
 
 -- what waits is marked, or among the others
-pub waits_either : (marks : ℕ → Bool) (ss others : DirtySlots) (q : DirtySlot) → is_among (marked marks ss ++ others) q ≡ (is_marked marks ss q || is_among others q)
-waits_either marks ss others q = list_any-append (dirty_same q) (marked marks ss) others ∙ ap (λ b. b || is_among others q) (waits_marked marks ss q)
+pub waits_either : (marks : ℕ → Bool) (ss : DirtySlots) (others : Test) (q : DirtySlot) → either marks ss others q ≡ (is_marked marks ss q || others q)
+waits_either marks ss others q = ap (λ b. b || others q) (waits_marked marks ss q)
 
 same_marks : (marks others : ℕ → Bool) (ss : DirtySlots) (q : DirtySlot) → ((i : ℕ) → marks i ≡ others i) → is_marked marks ss q ≡ is_marked others ss q
 same_marks marks others [] q same = refl
@@ -212,78 +212,78 @@ lowest_marked marks (s ∷ ss) (suc p) dirty rising there none q h =
 
 -- ---- what waits: the marked ones, and others
 
-module _ (marks : ℕ → Bool) (ss others : DirtySlots) where
+module _ (marks : ℕ → Bool) (ss : DirtySlots) (others : Test) where
   -- one more has its place marked
   pub placed_added : (more : ℕ → Bool) (p : ℕ) (dirty : DirtySlot) → IsTrue (is_dirty (slice_get ss p) dirty) → ((i : ℕ) → more i ≡ (nat_eq i p || marks i))
-      → (q : DirtySlot) → is_among (marked more ss ++ others) q ≡ (dirty_same q dirty || is_among (marked marks ss ++ others) q)
+      → (q : DirtySlot) → either more ss others q ≡ (dirty_same q dirty || either marks ss others q)
   placed_added more p dirty there is q =
-      waits_either more ss others q ∙ ap (λ b. b || is_among others q) (marked_more marks more ss p dirty there is q)
-      ∙ or_assoc (dirty_same q dirty) (is_marked marks ss q) (is_among others q) ∙ ap (λ b. dirty_same q dirty || b) (sym (waits_either marks ss others q))
+      waits_either more ss others q ∙ ap (λ b. b || others q) (marked_more marks more ss p dirty there is q)
+      ∙ or_assoc (dirty_same q dirty) (is_marked marks ss q) (others q) ∙ ap (λ b. dirty_same q dirty || b) (sym (waits_either marks ss others q))
 
   -- the places of all these slots are marked
   pub all_added : (more : ℕ → Bool) (ps : List ℕ) → All (λ p. p < length ss) ps → ((i : ℕ) → more i ≡ (is_one ps i || marks i))
-      → (q : DirtySlot) → is_among (marked more ss ++ others) q ≡ (is_at_any ss ps q || is_among (marked marks ss ++ others) q)
+      → (q : DirtySlot) → either more ss others q ≡ (is_at_any ss ps q || either marks ss others q)
   all_added more ps within is q =
-      waits_either more ss others q ∙ ap (λ b. b || is_among others q) (marked_all marks more ss ps within is q)
-      ∙ or_assoc (is_at_any ss ps q) (is_marked marks ss q) (is_among others q) ∙ ap (λ b. is_at_any ss ps q || b) (sym (waits_either marks ss others q))
+      waits_either more ss others q ∙ ap (λ b. b || others q) (marked_all marks more ss ps within is q)
+      ∙ or_assoc (is_at_any ss ps q) (is_marked marks ss q) (others q) ∙ ap (λ b. is_at_any ss ps q || b) (sym (waits_either marks ss others q))
 
   -- one more is among the others
-  pub other_added : (more : DirtySlots) (dirty q : DirtySlot) → is_among more q ≡ (dirty_same q dirty || is_among others q)
-      → is_among (marked marks ss ++ more) q ≡ (dirty_same q dirty || is_among (marked marks ss ++ others) q)
+  pub other_added : (more : Test) (dirty q : DirtySlot) → more q ≡ (dirty_same q dirty || others q)
+      → either marks ss more q ≡ (dirty_same q dirty || either marks ss others q)
   other_added more dirty q is =
       waits_either marks ss more q ∙ ap (λ b. is_marked marks ss q || b) is
-      ∙ or_swap (is_marked marks ss q) (dirty_same q dirty) (is_among others q) ∙ ap (λ b. dirty_same q dirty || b) (sym (waits_either marks ss others q))
+      ∙ or_swap (is_marked marks ss q) (dirty_same q dirty) (others q) ∙ ap (λ b. dirty_same q dirty || b) (sym (waits_either marks ss others q))
 
-  pub other_same : (now : DirtySlots) (q : DirtySlot) → is_among now q ≡ is_among others q → is_among (marked marks ss ++ now) q ≡ is_among (marked marks ss ++ others) q
+  pub other_same : (now : Test) (q : DirtySlot) → now q ≡ others q → either marks ss now q ≡ either marks ss others q
   other_same now q is = waits_either marks ss now q ∙ ap (λ b. is_marked marks ss q || b) is ∙ sym (waits_either marks ss others q)
 
   -- where no place is marked, the others wait alone
-  pub none_placed : ((i : ℕ) → i < length ss → marks i ≡ false) → (q : DirtySlot) → is_among (marked marks ss ++ others) q ≡ is_among others q
-  none_placed none q = waits_either marks ss others q ∙ ap (λ b. b || is_among others q) (unmarked marks ss q none)
+  pub none_placed : ((i : ℕ) → i < length ss → marks i ≡ false) → (q : DirtySlot) → either marks ss others q ≡ others q
+  none_placed none q = waits_either marks ss others q ∙ ap (λ b. b || others q) (unmarked marks ss q none)
 
   module _ (none : (i : ℕ) → i < length ss → marks i ≡ false) (popped : Option DirtySlot) where
-    pub other_none : IfNone popped ((q : DirtySlot) → is_among others q ≡ false) → IfNone popped ((q : DirtySlot) → is_among (marked marks ss ++ others) q ≡ false)
+    pub other_none : IfNone popped ((q : DirtySlot) → others q ≡ false) → IfNone popped ((q : DirtySlot) → either marks ss others q ≡ false)
     other_none = at popped
       where
-        at : (o : Option DirtySlot) → IfNone o ((q : DirtySlot) → is_among others q ≡ false) → IfNone o ((q : DirtySlot) → is_among (marked marks ss ++ others) q ≡ false)
+        at : (o : Option DirtySlot) → IfNone o ((q : DirtySlot) → others q ≡ false) → IfNone o ((q : DirtySlot) → either marks ss others q ≡ false)
         at None h = λ q. none_placed none q ∙ h q
         at (Some dirty) h = tt
 
-    pub other_rest : (left : DirtySlots) → IfSome popped (λ dirty. (q : DirtySlot) → is_among left q ≡ (is_among others q && not (dirty_same q dirty)))
-        → IfSome popped (λ dirty. (q : DirtySlot) → is_among (marked marks ss ++ left) q ≡ (is_among (marked marks ss ++ others) q && not (dirty_same q dirty)))
+    pub other_rest : (left : Test) → IfSome popped (λ dirty. (q : DirtySlot) → left q ≡ (others q && not (dirty_same q dirty)))
+        → IfSome popped (λ dirty. (q : DirtySlot) → either marks ss left q ≡ (either marks ss others q && not (dirty_same q dirty)))
     other_rest left = at popped
       where
-        at : (o : Option DirtySlot) → IfSome o (λ dirty. (q : DirtySlot) → is_among left q ≡ (is_among others q && not (dirty_same q dirty)))
-            → IfSome o (λ dirty. (q : DirtySlot) → is_among (marked marks ss ++ left) q ≡ (is_among (marked marks ss ++ others) q && not (dirty_same q dirty)))
+        at : (o : Option DirtySlot) → IfSome o (λ dirty. (q : DirtySlot) → left q ≡ (others q && not (dirty_same q dirty)))
+            → IfSome o (λ dirty. (q : DirtySlot) → either marks ss left q ≡ (either marks ss others q && not (dirty_same q dirty)))
         at None h = tt
-        at (Some dirty) h = λ q. waits_either marks ss left q ∙ ap (λ b. b || is_among left q) (unmarked marks ss q none) ∙ h q ∙ ap (λ b. b && not (dirty_same q dirty)) (sym (none_placed none q))
+        at (Some dirty) h = λ q. waits_either marks ss left q ∙ ap (λ b. b || left q) (unmarked marks ss q none) ∙ h q ∙ ap (λ b. b && not (dirty_same q dirty)) (sym (none_placed none q))
 
-    pub only_least : IfSome popped (λ dirty. (q : DirtySlot) → IsTrue (is_among others q) → dirty.rank ≤ q.rank)
-        → IfSome popped (λ dirty. (q : DirtySlot) → IsTrue (is_among (marked marks ss ++ others) q) → dirty.rank ≤ q.rank)
+    pub only_least : IfSome popped (λ dirty. (q : DirtySlot) → IsTrue (others q) → dirty.rank ≤ q.rank)
+        → IfSome popped (λ dirty. (q : DirtySlot) → IsTrue (either marks ss others q) → dirty.rank ≤ q.rank)
     only_least = at popped
       where
-        at : (o : Option DirtySlot) → IfSome o (λ dirty. (q : DirtySlot) → IsTrue (is_among others q) → dirty.rank ≤ q.rank)
-            → IfSome o (λ dirty. (q : DirtySlot) → IsTrue (is_among (marked marks ss ++ others) q) → dirty.rank ≤ q.rank)
+        at : (o : Option DirtySlot) → IfSome o (λ dirty. (q : DirtySlot) → IsTrue (others q) → dirty.rank ≤ q.rank)
+            → IfSome o (λ dirty. (q : DirtySlot) → IsTrue (either marks ss others q) → dirty.rank ≤ q.rank)
         at None h = tt
         at (Some dirty) h = λ q w. h q (sym (none_placed none q) ∙ w)
 
   module _ (p : ℕ) (dirty : DirtySlot) (rising : AreRising ss) (there : slice_get ss p ≡ Some dirty) (none : (i : ℕ) → i < p → marks i ≡ false) where
     -- the first marked one is of the lowest rank where none of the others is lower
-    pub placed_least : ((q : DirtySlot) → IsTrue (is_among others q) → dirty.rank ≤ q.rank) → (q : DirtySlot) → IsTrue (is_among (marked marks ss ++ others) q) → dirty.rank ≤ q.rank
+    pub placed_least : ((q : DirtySlot) → IsTrue (others q) → dirty.rank ≤ q.rank) → (q : DirtySlot) → IsTrue (either marks ss others q) → dirty.rank ≤ q.rank
     placed_least least q h = at (is_marked marks ss q) refl (sym (waits_either marks ss others q) ∙ h)
       where
-        at : (m : Bool) → is_marked marks ss q ≡ m → IsTrue (m || is_among others q) → dirty.rank ≤ q.rank
+        at : (m : Bool) → is_marked marks ss q ≡ m → IsTrue (m || others q) → dirty.rank ≤ q.rank
         at true e k = lowest_marked marks ss p dirty rising there none q e
         at false e k = least q k
 
-    pub placed_waits : marks p ≡ true → IsTrue (is_among (marked marks ss ++ others) dirty)
-    placed_waits mark = waits_either marks ss others dirty ∙ ap (λ b. b || is_among others dirty) (marked_at marks ss p dirty there mark)
+    pub placed_waits : marks p ≡ true → IsTrue (either marks ss others dirty)
+    placed_waits mark = waits_either marks ss others dirty ∙ ap (λ b. b || others dirty) (marked_at marks ss p dirty there mark)
 
-    pub placed_taken : (fewer : ℕ → Bool) (left : DirtySlots) → ((i : ℕ) → fewer i ≡ (marks i && not (nat_eq i p))) → (q : DirtySlot)
-        → is_among left q ≡ (is_among others q && not (dirty_same q dirty)) → is_among (marked fewer ss ++ left) q ≡ (is_among (marked marks ss ++ others) q && not (dirty_same q dirty))
+    pub placed_taken : (fewer : ℕ → Bool) (left : Test) → ((i : ℕ) → fewer i ≡ (marks i && not (nat_eq i p))) → (q : DirtySlot)
+        → left q ≡ (others q && not (dirty_same q dirty)) → either fewer ss left q ≡ (either marks ss others q && not (dirty_same q dirty))
     placed_taken fewer left is q out =
         waits_either fewer ss left q ∙ (λ i. marked_less marks fewer ss p dirty rising there is q i || out i)
-        ∙ both_less (is_marked marks ss q) (is_among others q) (not (dirty_same q dirty)) ∙ ap (λ b. b && not (dirty_same q dirty)) (sym (waits_either marks ss others q))
+        ∙ both_less (is_marked marks ss q) (others q) (not (dirty_same q dirty)) ∙ ap (λ b. b && not (dirty_same q dirty)) (sym (waits_either marks ss others q))
       where
         both_less : (a b n : Bool) → ((a && n) || (b && n)) ≡ ((a || b) && n)
         both_less true true true = refl
@@ -294,8 +294,8 @@ module _ (marks : ℕ → Bool) (ss others : DirtySlots) where
 
     -- one of the others that is lower than all marked ones
     module _ (lower : DirtySlot) (below : lower.rank < dirty.rank) where
-      pub other_taken : (left : DirtySlots) (q : DirtySlot) → is_among left q ≡ (is_among others q && not (dirty_same q lower))
-          → is_among (marked marks ss ++ left) q ≡ (is_among (marked marks ss ++ others) q && not (dirty_same q lower))
+      pub other_taken : (left : Test) (q : DirtySlot) → left q ≡ (others q && not (dirty_same q lower))
+          → either marks ss left q ≡ (either marks ss others q && not (dirty_same q lower))
       other_taken left q out =
           waits_either marks ss left q ∙ ap (λ b. is_marked marks ss q || b) out ∙ kept (is_marked marks ss q) refl
           ∙ ap (λ b. b && not (dirty_same q lower)) (sym (waits_either marks ss others q))
@@ -303,19 +303,19 @@ module _ (marks : ℕ → Bool) (ss others : DirtySlots) where
           unlike : IsTrue (is_marked marks ss q) → dirty_same q lower ≡ false
           unlike m = other_rank q lower (let le = lowest_marked marks ss p dirty rising there none q m in omega arith)
 
-          kept : (m : Bool) → is_marked marks ss q ≡ m → (m || (is_among others q && not (dirty_same q lower))) ≡ ((m || is_among others q) && not (dirty_same q lower))
+          kept : (m : Bool) → is_marked marks ss q ≡ m → (m || (others q && not (dirty_same q lower))) ≡ ((m || others q) && not (dirty_same q lower))
           kept true e = sym (ap not (unlike e))
           kept false e = refl
 
-      pub other_least : ((q : DirtySlot) → IsTrue (is_among others q) → lower.rank ≤ q.rank) → (q : DirtySlot) → IsTrue (is_among (marked marks ss ++ others) q) → lower.rank ≤ q.rank
+      pub other_least : ((q : DirtySlot) → IsTrue (others q) → lower.rank ≤ q.rank) → (q : DirtySlot) → IsTrue (either marks ss others q) → lower.rank ≤ q.rank
       other_least least q h = at (is_marked marks ss q) refl (sym (waits_either marks ss others q) ∙ h)
         where
-          at : (m : Bool) → is_marked marks ss q ≡ m → IsTrue (m || is_among others q) → lower.rank ≤ q.rank
+          at : (m : Bool) → is_marked marks ss q ≡ m → IsTrue (m || others q) → lower.rank ≤ q.rank
           at true e k = let le = lowest_marked marks ss p dirty rising there none q e in omega arith
           at false e k = least q k
 
-  pub other_waits : (lower : DirtySlot) → IsTrue (is_among others lower) → IsTrue (is_among (marked marks ss ++ others) lower)
-  other_waits lower h = waits_either marks ss others lower ∙ or_there (is_marked marks ss lower) (is_among others lower) h
+  pub other_waits : (lower : DirtySlot) → IsTrue (others lower) → IsTrue (either marks ss others lower)
+  other_waits lower h = waits_either marks ss others lower ∙ or_there (is_marked marks ss lower) (others lower) h
     where
       or_there : (a b : Bool) → b ≡ true → (a || b) ≡ true
       or_there true b h = refl

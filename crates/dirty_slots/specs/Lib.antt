@@ -1,4 +1,5 @@
-pub mod DirtyQueue
 pub mod PlaceBits
 pub mod Places
+pub mod Rows
+pub mod Slots
 pub mod Waiting

@@ -1,7 +1,7 @@
 -- Slots with a place each, and which of them are marked.
 use Rattle.std.specs.Prelude.{ℕ, suc, Bool, ◌&&◌, ◌||◌, nat_eq, nat_lt, IsTrue, if◌then◌else◌, List, [], ◌∷◌, slice_get}
 use Rattle.std.specs.List.{list_any}
-use Rattle.dirty_slots.specs.Waiting.{DirtySlots, is_dirty}
+use Rattle.dirty_slots.specs.Slots.{DirtySlots, is_dirty}
 use Rattle.dirty_slots.specs.declared.dirty_slot.DirtySlot.{DirtySlot}
 
 abbrev pub is_before : DirtySlot → DirtySlot → Bool

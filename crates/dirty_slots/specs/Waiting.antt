@@ -1,40 +1,29 @@
--- Which slots wait, and which are noted.
-use Rattle.std.specs.Prelude.{Bool, false, ◌&&◌, IsTrue, nat_eq, List, Option, Some, None, slice_index_or}
-use Rattle.std.specs.List.{list_any}
+-- Which slots wait.
+pub use Rattle.dirty_slots.specs.Slots.{DirtySlots, Test, dirty_same, is_among, is_dirty}
+use Rattle.std.specs.Prelude.{ℕ, Bool, ◌||◌}
+use Rattle.dirty_slots.specs.PlaceBits.{has_place, Words}
+use Rattle.dirty_slots.specs.Places.{marked}
+use Rattle.dirty_slots.specs.Rows.{has_in, Rows}
 use Rattle.dirty_slots.specs.declared.dirty_slot.DirtySlot.{DirtySlot}
 
-abbrev pub DirtySlots : Type 0
-DirtySlots = List DirtySlot
+-- those without a place: in the rows of their facts, and others
+pub record Unplaced : Type 0 where
+  pub rows : Rows
+  pub others : DirtySlots
 
-abbrev pub dirty_same : DirtySlot → DirtySlot → Bool
-dirty_same p q = nat_eq p.rank q.rank && (nat_eq p.fact q.fact && nat_eq p.member q.member)
+abbrev pub is_unplaced : Unplaced → Test
+is_unplaced slots q = has_in slots.rows q || is_among slots.others q
 
--- it is one of these
-abbrev pub is_among : DirtySlots → DirtySlot → Bool
-is_among ds q = list_any (dirty_same q) ds
-
--- the slots that have a place, and those that wait
+-- the slots that have a place, the bits of those that wait, and those without a place that wait
 pub record Queue : Type 0 where
   pub places : DirtySlots
-  pub waiting : DirtySlots
+  pub placed : Words
+  pub unplaced : Unplaced
+
+-- its place is marked, or it is one of the others
+abbrev pub either : (ℕ → Bool) → DirtySlots → Test → Test
+either marks places others q = is_among (marked marks places) q || others q
 
 -- it waits
 abbrev pub waits : Queue → DirtySlot → Bool
-waits queue q = is_among queue.waiting q
-
--- ---- for each fact, by its number, one of its slots or none
-
-abbrev pub Notes : Type 0
-Notes = List (Option DirtySlot)
-
-abbrev pub is_dirty : Option DirtySlot → DirtySlot → Bool
-is_dirty None q = false
-is_dirty (Some d) q = dirty_same d q
-
--- it is the slot that is noted at its fact
-abbrev pub is_noted : Notes → DirtySlot → Bool
-is_noted last q = is_dirty (slice_index_or last q.fact None) q
-
--- what is noted waits
-abbrev pub NotedWait : DirtySlots → Notes → Type 0
-NotedWait ds last = (q : DirtySlot) → IsTrue (is_noted last q) → IsTrue (is_among ds q)
+waits queue q = either (has_place queue.placed) queue.places (is_unplaced queue.unplaced) q

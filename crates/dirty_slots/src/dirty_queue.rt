@@ -27,9 +27,7 @@ impl Model for DirtyQueue {
 
     ghost Value = { Queue };
 
-    ghost use Rattle.dirty_slots.specs.DirtyQueue.{queue_of};
-
-    ghost view = { λ queue. queue_of queue.placed queue.places.value queue.unplaced };
+    ghost view = { λ queue. record { places = queue.places.value; placed = queue.placed; unplaced = queue.unplaced } };
 
     ghost use Rattle.std.specs.Prelude.{◌*◌, ◌≤◌, length};
 

@@ -5,6 +5,7 @@ mod dirty_queue;
 mod dirty_slot;
 mod place_bits;
 mod places;
+mod rows;
 mod unplaced;
 
 pub use dirty_queue::DirtyQueue;

@@ -1,5 +1,5 @@
 // A set of places, as a bit for each, from which the first is found at once.
-ghost use Rattle.std.specs.Prelude.{◌≡◌, ◌≢◌, ◌*◌, ◌/◌, ◌<◌, ◌≤◌, ◌^◌, ◌&&◌, ◌||◌, ℕ, false, not, nat_eq, All, length, get_or, IfOk, IsTrue};
+ghost use Rattle.std.specs.Prelude.{◌≡◌, ◌≢◌, ◌↔◌, ◌*◌, ◌/◌, ◌<◌, ◌≤◌, ◌^◌, ◌&&◌, ◌||◌, ℕ, false, not, nat_eq, All, length, get_or, IfOk, IsTrue, OnOk};
 ghost use Rattle.std.specs.Int.{bit_at};
 ghost use Rattle.dirty_slots.specs.PlaceBits.{has_place, is_one, IsFromLeast};
 
@@ -34,6 +34,38 @@ impl PlaceBits {
     {
         let words = vec![in alloc; 0; places / 64 + 1]?;
         Ok(PlaceBits { words, least: 0 })
+    }
+
+    /// No place has a bit.
+    pub fn empty(alloc: Global) -> PlaceBits
+        ensures { (i : ℕ) → has_place result i ≡ false }
+    {
+        PlaceBits {
+            words: Vec::new(alloc),
+            least: 0,
+        }
+    }
+
+    /// Whether a place has a bit.
+    #[inline(always)]
+    pub fn has_bit(&self, place: usize) -> bool
+        ensures { IsTrue result ↔ (place < length self.now * 64) }
+    {
+        place / 64 < self.words.len()
+    }
+
+    /// Gives a place a bit, and those before it.
+    #[inline(always)]
+    pub fn reach(&mut self, place: usize) -> Result<(), NoMemory>
+        requires { place < 2 ^ 63 }
+        ensures places { (i : ℕ) → has_place self.new i ≡ has_place self.old i }
+        ensures bits { OnOk result (place < length self.new * 64) }
+    {
+        if self.has_bit(place) {
+            return Ok(());
+        }
+        self.words.resize(place / 64 + 1, 0)?;
+        Ok(())
     }
 
     /// No place is in it any more.

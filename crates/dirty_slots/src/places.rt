@@ -1,7 +1,7 @@
 // Slots with a place each, in the order in which they are evaluated.
 ghost use Rattle.std.specs.Prelude.{◌≡◌, ◌<◌, ◌^◌, ◌++◌, ◌∷◌, [], IfOk, IfSome, IsTrue, length, option_copied, slice_get};
 ghost use Rattle.dirty_slots.specs.Places.{AreRising};
-ghost use Rattle.dirty_slots.specs.Waiting.{is_dirty};
+ghost use Rattle.dirty_slots.specs.Slots.{is_dirty};
 
 use crate::dirty_slot::DirtySlot;
 use fact_values::NoMemory;
@@ -18,7 +18,7 @@ pub struct Places {
 
 impl Model for Places {
     ghost use Rattle.dirty_slots.specs.Places.{AreRising};
-    ghost use Rattle.dirty_slots.specs.Waiting.{DirtySlots};
+    ghost use Rattle.dirty_slots.specs.Slots.{DirtySlots};
 
     ghost Value = { DirtySlots };
 

@@ -1,142 +1,212 @@
 // The slots that wait and have no place, those of the lowest rank first.
-ghost use Rattle.std.specs.Prelude.{◌≡◌, ◌↔◌, ◌≤◌, ◌||◌, ◌&&◌, not, true, false, IfSome, IfNone, IsTrue, IfOk, OnOk, OnErr, ◌<◌, ◌^◌, slice_set};
-ghost use Rattle.dirty_slots.specs.Waiting.{dirty_same, is_among, is_noted};
+ghost use Rattle.std.specs.Prelude.{◌≡◌, ◌≤◌, ◌<◌, ◌^◌, ◌||◌, ◌&&◌, not, false, IfNone, IfOk, IfSome, IsTrue, OnErr, OnOk};
+ghost use Rattle.std.specs.BTreeSet.{btree_set_len};
+ghost use Rattle.dirty_slots.specs.Rows.{has_in, head_of, Headed, lower};
+ghost use Rattle.dirty_slots.specs.Waiting.{dirty_same, is_among, is_unplaced};
 ghost use Rattle.dirty_slots.specs.declared.dirty_slot.DirtySlot.{DirtySlot as OneSlot};
 
 use crate::dirty_slot::DirtySlot;
+use crate::rows::{self, Row};
 use fact_values::NoMemory;
 use std::alloc::Global;
 use std::collections::BTreeSet;
 use std::marker::Model;
 
-/// Slots that wait. Contracts see a list, and ask it by `waits` alone.
+/// Slots that wait. Contracts see of each slot whether it does.
+///
+/// A fact's members are numbered from 1 in the order of their making, and many of one fact wait at once. So each waits as
+/// a bit in the row of its fact, which takes no search, and a set in order has only the facts of which some may wait, each
+/// as the slot of its member 0. A row takes the rank of the first slot in it; a slot of another rank, of a member with a
+/// high number, or of a fact without a row, waits in a set of its own.
 #[derive(Drop)]
 pub struct UnplacedSlots {
-    dirty: BTreeSet<DirtySlot>,
-    /// For each fact, by its number, the slot of it that was let wait last, if it still waits.
-    last: Vec<Option<DirtySlot>>,
+    rows: Vec<Row>,
+    heads: BTreeSet<DirtySlot>,
+    others: BTreeSet<DirtySlot>,
 }
 
 impl Model for UnplacedSlots {
-    ghost use Rattle.dirty_slots.specs.Waiting.{DirtySlots, NotedWait};
+    ghost use Rattle.dirty_slots.specs.Rows.{Headed};
+    ghost use Rattle.dirty_slots.specs.Waiting.{Unplaced};
 
-    ghost Value = { DirtySlots };
+    ghost Value = { Unplaced };
 
-    ghost view = { λ queue. queue.dirty.keys };
+    ghost view = { λ queue. record { rows = queue.rows.items; others = queue.others.keys } };
 
-    ghost invariant = { λ queue. NotedWait queue.dirty.keys queue.last.items };
+    ghost invariant = { λ queue. Headed queue.rows.items queue.heads.keys };
 }
 
 impl UnplacedSlots {
-    /// Nothing waits. So many facts, by their numbers from 1, have a place for a slot to be noted.
+    /// Nothing waits. So many facts, by their numbers from 1, have a row.
     pub fn new(alloc: Global, facts: usize) -> Result<UnplacedSlots, NoMemory>
         requires { facts < 2 ^ 63 }
-        ensures { IfOk result (λ queue. (q : OneSlot) → is_among queue q ≡ false) }
+        ensures { IfOk result (λ queue. (q : OneSlot) → is_unplaced queue q ≡ false) }
     {
-        let last = vec![in alloc; None; facts + 1]?;
+        let rows = rows::new_rows(alloc, facts + 1)?;
         Ok(UnplacedSlots {
-            dirty: BTreeSet::new(alloc),
-            last,
+            rows,
+            heads: BTreeSet::new(alloc),
+            others: BTreeSet::new(alloc),
         })
     }
 
     /// Nothing waits any more. It takes no memory.
     pub fn clear(&mut self)
-        ensures { (q : OneSlot) → is_among self.new q ≡ false }
+        ensures { (q : OneSlot) → is_unplaced self.new q ≡ false }
     {
-        self.dirty.clear();
-        self.last.fill(None);
+        rows::clear(&mut self.rows);
+        self.heads.clear();
+        self.others.clear();
     }
 
     /// Lets one more wait, which may wait already.
     #[inline(always)]
     pub fn add(&mut self, dirty: DirtySlot) -> Result<(), NoMemory>
-        ensures ok { OnOk result ((q : OneSlot) → is_among self.new q ≡ (dirty_same q dirty || is_among self.old q)) }
-        ensures err { OnErr result ((q : OneSlot) → is_among self.new q ≡ is_among self.old q) }
+        ensures ok { OnOk result ((q : OneSlot) → is_unplaced self.new q ≡ (dirty_same q dirty || is_unplaced self.old q)) }
+        ensures err { OnErr result ((q : OneSlot) → is_unplaced self.new q ≡ is_unplaced self.old q) }
     {
-        if is_noted(&self.last, dirty) {
-            return Ok(());
+        if !rows::is_of(&mut self.rows, dirty) {
+            return add_to(&mut self.others, dirty);
         }
-        self.insert(dirty)
-    }
-
-    // The same of one that isn't noted. A function of its own, since most slots that are let wait are noted, and a call keeps
-    // room for all that its function may do.
-    #[inline(never)]
-    fn insert(&mut self, dirty: DirtySlot) -> Result<(), NoMemory>
-        ensures ok { OnOk result ((q : OneSlot) → is_among self.new q ≡ (dirty_same q dirty || is_among self.old q)) }
-        ensures err { OnErr result ((q : OneSlot) → is_among self.new q ≡ is_among self.old q) }
-    {
-        self.dirty.insert(dirty)?;
-        note(&mut self.last, dirty.fact, Some(dirty));
-        Ok(())
+        if rows::first_of(&mut self.rows, dirty).is_none() {
+            add_to(&mut self.heads, head_of(dirty))?;
+        }
+        rows::put(&mut self.rows, dirty)
     }
 
     /// Takes out one of the lowest rank.
     pub fn pop(&mut self) -> Option<DirtySlot>
-        ensures none { IfNone result ((q : OneSlot) → is_among self.old q ≡ false) }
+        ensures none { IfNone result ((q : OneSlot) → is_unplaced self.old q ≡ false) }
         ensures unchanged { IfNone result (self.new ≡ self.old) }
-        ensures some { IfSome result (λ dirty. IsTrue (is_among self.old dirty)) }
+        ensures some { IfSome result (λ dirty. IsTrue (is_unplaced self.old dirty)) }
         ensures rest { IfSome result (λ dirty. (q : OneSlot)
-            → is_among self.new q ≡ (is_among self.old q && not (dirty_same q dirty))) }
+            → is_unplaced self.new q ≡ (is_unplaced self.old q && not (dirty_same q dirty))) }
         ensures least { IfSome result (λ dirty. (q : OneSlot)
-            → IsTrue (is_among self.old q) → dirty.rank ≤ q.rank) }
+            → IsTrue (is_unplaced self.old q) → dirty.rank ≤ q.rank) }
     {
-        let dirty = self.dirty.pop_first()?;
-        forget(&mut self.last, dirty);
+        let dirty = self.first()?;
+        self.remove(dirty);
         Some(dirty)
     }
 
     /// Takes out this one, if it waits. It takes no memory.
+    #[inline(always)]
     pub fn remove(&mut self, dirty: DirtySlot)
-        ensures { (q : OneSlot) → is_among self.new q ≡ (is_among self.old q && not (dirty_same q dirty)) }
+        ensures { (q : OneSlot) → is_unplaced self.new q ≡ (is_unplaced self.old q && not (dirty_same q dirty)) }
     {
-        let _ = self.dirty.remove(&dirty);
-        forget(&mut self.last, dirty);
+        rows::remove(&mut self.rows, dirty);
+        take_from(&mut self.others, dirty);
     }
 
     /// Takes out one of the lowest rank, if that is below this one.
     pub fn pop_below(&mut self, rank: u32) -> Option<DirtySlot>
-        ensures none { IfNone result ((q : OneSlot) → IsTrue (is_among self.old q) → rank ≤ q.rank) }
+        ensures none { IfNone result ((q : OneSlot) → IsTrue (is_unplaced self.old q) → rank ≤ q.rank) }
         ensures unchanged { IfNone result (self.new ≡ self.old) }
         ensures below { IfSome result (λ dirty. dirty.rank < rank) }
-        ensures some { IfSome result (λ dirty. IsTrue (is_among self.old dirty)) }
+        ensures some { IfSome result (λ dirty. IsTrue (is_unplaced self.old dirty)) }
         ensures rest { IfSome result (λ dirty. (q : OneSlot)
-            → is_among self.new q ≡ (is_among self.old q && not (dirty_same q dirty))) }
+            → is_unplaced self.new q ≡ (is_unplaced self.old q && not (dirty_same q dirty))) }
         ensures least { IfSome result (λ dirty. (q : OneSlot)
-            → IsTrue (is_among self.old q) → dirty.rank ≤ q.rank) }
+            → IsTrue (is_unplaced self.old q) → dirty.rank ≤ q.rank) }
     {
-        let first = self.dirty.first()?;
-        if first.rank < rank { self.pop() } else { None }
+        let dirty = self.first()?;
+        if dirty.rank < rank {
+            self.remove(dirty);
+            Some(dirty)
+        } else {
+            None
+        }
+    }
+
+    // One of the lowest rank.
+    fn first(&mut self) -> Option<DirtySlot>
+        ensures none { IfNone result ((q : OneSlot) → is_unplaced self.old q ≡ false) }
+        ensures some { IfSome result (λ dirty. IsTrue (is_unplaced self.old dirty)) }
+        ensures least { IfSome result (λ dirty. (q : OneSlot)
+            → IsTrue (is_unplaced self.old q) → dirty.rank ≤ q.rank) }
+        ensures unchanged { self.new ≡ self.old }
+    {
+        let in_rows = first_headed(&mut self.rows, &mut self.heads);
+        lower(in_rows, lowest(&self.others))
     }
 }
 
-// Whether this slot is noted at its fact.
-fn is_noted(last: &[Option<DirtySlot>], dirty: DirtySlot) -> bool
-    ensures { result ≡ is_noted last.now dirty }
+// The head of a slot's fact.
+fn head_of(dirty: DirtySlot) -> DirtySlot
+    ensures { result ≡ head_of dirty }
 {
-    match last.get(dirty.fact as usize) {
-        Some(noted) => *noted == Some(dirty),
-        None => false,
+    DirtySlot {
+        rank: dirty.rank,
+        fact: dirty.fact,
+        member: 0,
     }
 }
 
-// Notes a slot or none at a fact, if that has a place.
-fn note(last: &mut Vec<Option<DirtySlot>>, fact: u32, dirty: Option<DirtySlot>)
-    ensures { last.new.items ≡ slice_set last.old.items fact dirty }
+// Of two slots, one of the lower rank.
+fn lower(p: Option<DirtySlot>, q: Option<DirtySlot>) -> Option<DirtySlot>
+    ensures { result ≡ lower p q }
 {
-    let place = fact as usize;
-    if place < last.len() {
-        last[place] = dirty;
+    match p {
+        None => q,
+        Some(a) => match q {
+            None => Some(a),
+            Some(b) => if b.rank < a.rank { Some(b) } else { Some(a) },
+        },
     }
 }
 
-// Notes this slot no more.
-fn forget(last: &mut Vec<Option<DirtySlot>>, dirty: DirtySlot)
-    ensures { (q : OneSlot) → is_noted last.new.items q
-        ≡ (is_noted last.old.items q && not (dirty_same q dirty)) }
+// A slot of the lowest rank in rows. Heads before it, of whose fact none waits, are taken out.
+fn first_headed(rows: &mut [Row], heads: &mut BTreeSet<DirtySlot>) -> Option<DirtySlot>
+    requires { Headed rows.old heads.old.keys }
+    ensures none { IfNone result ((q : OneSlot) → has_in rows.old q ≡ false) }
+    ensures some { IfSome result (λ dirty. IsTrue (has_in rows.old dirty)) }
+    ensures least { IfSome result (λ dirty. (q : OneSlot)
+        → IsTrue (has_in rows.old q) → dirty.rank ≤ q.rank) }
+    ensures headed { Headed rows.new heads.new.keys }
+    ensures unchanged { rows.new ≡ rows.old }
 {
-    if is_noted(last, dirty) {
-        note(last, dirty.fact, None);
+    while let Some(head) = lowest(heads) {
+        let found = rows::first_of(rows, head);
+        if found.is_some() {
+            return found;
+        }
+        take(heads, head);
     }
+    None
+}
+
+fn lowest(set: &BTreeSet<DirtySlot>) -> Option<DirtySlot>
+    ensures none { IfNone result ((q : OneSlot) → is_among set.now.keys q ≡ false) }
+    ensures some { IfSome result (λ dirty. IsTrue (is_among set.now.keys dirty)) }
+    ensures least { IfSome result (λ dirty. (q : OneSlot)
+        → IsTrue (is_among set.now.keys q) → dirty.rank ≤ q.rank) }
+{
+    let first = set.first()?;
+    Some(*first)
+}
+
+#[inline(never)]
+fn add_to(set: &mut BTreeSet<DirtySlot>, dirty: DirtySlot) -> Result<(), NoMemory>
+    ensures ok { OnOk result ((q : OneSlot) → is_among set.new.keys q ≡ (dirty_same q dirty || is_among set.old.keys q)) }
+    ensures err { OnErr result ((q : OneSlot) → is_among set.new.keys q ≡ is_among set.old.keys q) }
+{
+    set.insert(dirty)?;
+    Ok(())
+}
+
+#[inline(always)]
+fn take_from(set: &mut BTreeSet<DirtySlot>, dirty: DirtySlot)
+    ensures { (q : OneSlot) → is_among set.new.keys q ≡ (is_among set.old.keys q && not (dirty_same q dirty)) }
+{
+    if !set.is_empty() {
+        take(set, dirty);
+    }
+}
+
+#[inline(never)]
+fn take(set: &mut BTreeSet<DirtySlot>, dirty: DirtySlot)
+    ensures fewer { IsTrue (is_among set.old.keys dirty) → btree_set_len set.new < btree_set_len set.old }
+    ensures taken { (q : OneSlot) → is_among set.new.keys q ≡ (is_among set.old.keys q && not (dirty_same q dirty)) }
+{
+    let _ = set.remove(&dirty);
 }
