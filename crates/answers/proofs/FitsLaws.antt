@@ -1,4 +1,4 @@
--- The inverse of a change that fits, fits afterwards.
+-- A change that fits has an inverse that fits the answers after it.
 use Rattle.std.proofs.Common.{◌≡◌, ℕ, zero, suc, Bool, true, false, List, [], ◌∷◌, ◌++◌, length, inl, inr, Option, Some, None, refl, ap, ◌∙◌, arith, ◌<◌, ◌≤◌, ◌-◌, ◌+◌, ◌||◌, length-append}
 use Rattle.std.specs.Prelude.{nat_eq, is_some, not, unwrap_or, insert, IsSome, if◌then◌else◌}
 use Rattle.std.specs.List.{list_any}

@@ -1,4 +1,4 @@
--- Clauses on one result.
+-- Joins clauses on one result.
 use Rattle.std.proofs.Common.{IfOk, OnOk, OnErr}
 use Rattle.std.specs.declared.result.Result.{Result}
 use Rattle.std.specs.declared.result.Result.TheVariants.{Ok, Err}

@@ -1,4 +1,4 @@
--- Where a place is, and what there is room for.
+-- Laws of room: what stands has a place, and what there is room for.
 use Rattle.std.proofs.Common.{◌≡◌, ℕ, Bool, true, false, Option, Some, None, refl, sym, ap, subst}
 use Rattle.std.specs.Prelude.{nat_eq, IsSome, if◌then◌else◌}
 use Rattle.std.specs.Map.{lookup}

@@ -1,4 +1,4 @@
--- The start is well formed.
+-- The answers at the start are well formed.
 use Rattle.std.proofs.Common.{◌≡◌, ℕ, [], sym, ap, subst, arith, ◌≤◌}
 use Rattle.std.specs.Prelude.{unwrap_or, IsSome}
 use Rattle.std.specs.Ordering.{nat_cmp}

@@ -1,4 +1,4 @@
-// Answers, whose type keeps what is true of all answers.
+// The type of answers, which keeps what is true of all answers.
 ghost use Rattle.std.specs.Prelude.{◌≡◌, ◌≤◌, Option, IfOk, OnOk, OnErr, IfErr, IsOk, option_map, option_copied};
 ghost use Rattle.std.specs.FinMap as map;
 ghost use Rattle.answers.specs.Answered.{start, value_of};

@@ -1,4 +1,4 @@
-// What stands at the facts of one member.
+// The answers and overrides at the facts of one member.
 ghost use Rattle.std.specs.Prelude.{◌≡◌, ℕ, Option, Some, None, IfOk, OnOk, OnErr, IfErr, IsOk, IsSome, option_copied};
 ghost use Rattle.std.specs.FinMap as map;
 ghost use Rattle.answers.specs.Answered.{blank, of_side};

@@ -1,4 +1,4 @@
-// The fields of answers, and the edits of them.
+// The fields of `Answers`, and the edits of them.
 ghost use Rattle.std.specs.Prelude.{◌≡◌, ◌<◌, ◌≤◌, ◌-◌, ℕ, [], Option, Some, None, IfOk, OnOk, OnErr, IfErr, IsOk, IsSome, is_some, option_map, option_copied};
 ghost use Rattle.std.specs.FinMap as map;
 ghost use Rattle.answers.specs.Answered.{start_at, entry, value_of, list_of};

@@ -1,4 +1,4 @@
-// What stands at facts, by fact.
+// An answer and an override for each fact, kept by the number of the fact.
 ghost use Rattle.std.specs.Prelude.{◌≡◌, ℕ, [], Option, Some, None, IfOk, OnOk, OnErr, IfErr, IsOk, IsSome, option_copied};
 ghost use Rattle.std.specs.FinMap as map;
 ghost use Rattle.answers.specs.Answered.{blank, of_side};

@@ -1,4 +1,4 @@
-// The dictionaries, by their words.
+// The dictionaries that come along, found by their words.
 ghost use Rattle.std.specs.Prelude.{◌≡◌, [], false, IfOk, option_copied};
 ghost use Rattle.fact_paths.specs.Cuts.{after};
 ghost use Rattle.dictionary.specs.AcceptedParts.{accepted};

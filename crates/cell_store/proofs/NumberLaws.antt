@@ -76,5 +76,7 @@ no_whole None h n e = absurd cc
 no_whole (Some c) h n e = absurd (let both : None ≡ Some n = sym h ∙ ap (λ r. whole_in (number_in (unwrap_or r Incomplete))) e in cc)
 
 pub ruleset numbers = (get_number, set_number, pushed_number)
+
 pub ruleset found = (get_with_globals, number_found)
+
 pub ruleset read = (some_amount, no_amount, some_whole, no_whole)

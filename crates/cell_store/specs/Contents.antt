@@ -1,4 +1,4 @@
--- What a store keeps.
+-- What a store keeps: a cell at each of some slots.
 use Rattle.std.specs.Prelude.{ℕ, Bool, false, not, Option, Some, None, option_map, refl}
 use Rattle.std.specs.Coded.{Coded, code_by, coded×, coded_ℕ}
 use Rattle.std.specs.FinMap as map

@@ -1,4 +1,4 @@
--- What finite maps of cells say.
+-- Laws of cells at slots: a put or a take changes what one slot has, and no other.
 use Rattle.std.specs.Prelude.{◌≡◌, ◌≢◌, Some, None}
 use Rattle.std.specs.FinMap as map
 use Rattle.fact_values.specs.declared.slot.Slot.{Slot}

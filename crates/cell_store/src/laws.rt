@@ -1,4 +1,4 @@
-// What finite maps of cells say. Each function's contract is the theorem.
+// Laws of cells at slots: slots are in a total order, and a put or a take changes one slot. Each function's contract is a law.
 ghost use Rattle.std.specs.Cmp.{IsTotalOrder};
 ghost use Rattle.std.specs.FinMap.{IsAntisymmetric};
 ghost use Rattle.cell_store.specs.Laws.{PutChangesOneSlot, TakeChangesOneSlot};

@@ -1,4 +1,4 @@
--- Which slots a fact's readers are fed by.
+-- Laws of readers: a slot feeds the slots of its fact's readers, and readers are facts.
 use Rattle.std.specs.Prelude.{◌≡◌, ℕ, Bool, not, ◌&&◌, ◌||◌, nat_eq, List, All}
 use Rattle.std.specs.List.{list_any}
 use Rattle.fact_values.specs.declared.slot.Slot.{Slot}

@@ -1,4 +1,4 @@
-// What readers say of slots. Each function's contract is the theorem.
+// Laws of readers: a slot feeds the slots of its fact's readers, and readers are facts. Each function's contract is a law.
 ghost use Rattle.dep_index.specs.Laws.{FeedsByReaders, ReadersAreFacts};
 
 /// A slot feeds another exactly where the fact of the other is among its fact's readers and, where

@@ -1,4 +1,5 @@
-// Laws of lines and of replies, each the contract of a function that does nothing.
+// Laws of the lines of several parties: a line is of one party at most, and what is printed as final stays. Each function's
+// contract is a law.
 ghost use Rattle.desk_lines.specs.DeskLaws.{DeskFinalLinesStay};
 ghost use Rattle.desk_lines.specs.PartyLines.{SaysByMark};
 

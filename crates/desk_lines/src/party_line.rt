@@ -1,4 +1,4 @@
-// What a line of a script says.
+// Reads which party a line of a script is of, and what it says.
 ghost use Rattle.std.specs.Prelude.{◌≡◌, ◌≤◌, IfOk, length};
 ghost use Rattle.script_lines.specs.Commands.{without_return};
 ghost use Rattle.script_lines.specs.Parsing.{command as of_command, heard_in};

@@ -1,4 +1,4 @@
-// Writes why a line of a party is refused.
+// Writes the line that says why a line of a party is refused.
 ghost use Rattle.std.specs.Prelude.{◌≡◌, ◌≤◌};
 ghost use Rattle.shared_desk.specs.Refusals.{wants_memory};
 ghost use Rattle.desk_lines.specs.DeskAnswering.{DeskRefusedAs};

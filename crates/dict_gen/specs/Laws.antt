@@ -1,4 +1,4 @@
--- How large the load is, and that its script is read line by line.
+-- Laws of the load: how large it is, and that its script is read line by line.
 use Rattle.std.specs.Prelude.{◌≡◌, ℕ, ◌+◌, ◌*◌, ◌≤◌, length, map}
 use Rattle.script_lines.specs.Lines.{script_lines, whole}
 use Rattle.dictionary.specs.Keeping.{node_count}

@@ -1,4 +1,4 @@
-// Laws of the load. Each function's contract is its laws.
+// Laws of the load: its size, and that its script is read line by line. Each function's contract is a law.
 ghost use Rattle.dict_gen.specs.Laws.{ChainHasFacts, ChainHasNodes, ScriptHasLines, ScriptIsRead, ScriptIsShort};
 
 /// How many facts and nodes the dictionary of so many sums has, how many lines its script, and how many bytes at most.

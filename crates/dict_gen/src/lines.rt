@@ -1,4 +1,4 @@
-// Lines of the script.
+// The lines of a load's script, and how one is appended to it.
 ghost use Rattle.std.specs.Prelude.{◌≡◌, ◌++◌, ◌∷◌, [], replicate, string_bytes, IfOk, OnOk};
 ghost use Rattle.script_lines.specs.Joined.{joined};
 ghost use Rattle.dict_gen.specs.Script.{get_line as asks, set_line as answers};

@@ -1,4 +1,4 @@
-// The load.
+// Makes a load: its dictionary, accepted, and its script.
 ghost use Rattle.std.specs.Prelude.{◌≡◌, ◌≤◌, [], IfOk};
 ghost use Rattle.dict_meaning.specs.Accepted.{IsAccepted};
 ghost use Rattle.dictionary.specs.AcceptedParts.{accepted};

@@ -1,4 +1,4 @@
-// The script of the load.
+// Makes the script of a load.
 ghost use Rattle.std.specs.Prelude.{◌≡◌, ◌<◌, ◌≤◌, ◌++◌, codes, IfOk, OnOk};
 ghost use Rattle.script_lines.specs.Joined.{joined};
 ghost use Rattle.dict_gen.specs.Script.{member_count as members_of, moves, round, rounds, script as load};

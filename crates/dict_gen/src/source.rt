@@ -1,4 +1,4 @@
-// The source of the dictionary.
+// Makes the source of a load's dictionary.
 ghost use Rattle.std.specs.Prelude.{◌≡◌, ◌<◌, ◌≤◌, suc, zero, List, [], ◌∷◌, codes, string_bytes, IfOk, IsTrue, OnOk};
 ghost use Rattle.fact_values.specs.declared.fact_type.FactType.TheVariants.{Int};
 ghost use Rattle.dict_source.specs.Dictionary.{dictionary_view, with_fact};

@@ -1,4 +1,4 @@
--- What is accepted of one tree is one.
+-- One tree is accepted in one way: its types, limits and ranks are given by it.
 use Rattle.std.proofs.Common.{◌≡◌, ℕ, List, Result, Ok, sym, ap, subst, ◌∙◌}
 use Rattle.dict_source.specs.Dictionary.{Dictionary as Tree}
 use Rattle.dict_types.specs.Typed.{typed_dictionary}

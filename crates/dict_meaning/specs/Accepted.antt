@@ -1,4 +1,4 @@
--- What acceptance gives.
+-- What acceptance gives: a dictionary with the types, constants, limits and ranks of its facts.
 use Rattle.std.specs.Prelude.{ℕ, List}
 use Rattle.dict_source.specs.Dictionary.{Dictionary as Tree, IsValid}
 use Rattle.dict_types.specs.TypedParts.{TypedDictionary}

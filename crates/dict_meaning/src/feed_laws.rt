@@ -1,4 +1,5 @@
-// Laws of what feeds a slot. Each function's contract is its law.
+// Laws of the slots that feed a slot: its fact mentions their facts, and these are of lower rank. Each function's contract is a
+// law.
 ghost use Rattle.dict_meaning.specs.Feeds.{FeedsByMentions, FeedsFall};
 
 /// A slot feeds those whose facts mention its fact and, where each such mention is of the same member, that have its member.

@@ -1,4 +1,4 @@
-// Which results no further answer can change. The function's contract is the theorem.
+// Laws of final results: no further answer changes one. Each function's contract is a law.
 ghost use Rattle.dict_meaning.specs.Final.{FinalStays};
 
 /// A final result is complete, with the same value under every extension of the answers.

@@ -1,4 +1,5 @@
-// Which answers fit a dictionary. Each function's contract is its law.
+// Laws of answers that fit a dictionary: those at the start, given lists, and those after an allowed change do. Each function's
+// contract is a law.
 ghost use Rattle.dict_meaning.specs.Allowed.{AllowedChangesFit, GivenFit, StartFits};
 
 /// The answers at the start fit every dictionary.

@@ -1,4 +1,5 @@
-// Laws of where slots are, and of their texts. Each function's contract is its laws.
+// Laws of the homes of facts and the texts of slots: a member's fact has a writable collection, and a text spells its slot's
+// path. Each function's contract is a law.
 ghost use Rattle.dict_meaning.specs.Homes.{GlobalHasNoHome, HomeIsCollection};
 ghost use Rattle.dict_meaning.specs.SlotText.{TextSpellsPath};
 

@@ -1,4 +1,5 @@
-// Laws of plain evaluation. Each function's contract is its law.
+// Laws of plain evaluation: it is one step over itself, the facts of lower rank are enough for it, and slots that stand have
+// results. Each function's contract is a law.
 ghost use Rattle.dict_meaning.specs.Plain.{JoinedByRank, PlainIsRecursive, StandingHaveResults, StepOverLower};
 
 /// Plain evaluation is one step over itself.

@@ -1,4 +1,4 @@
-// A law of the slots that stand, as the function's contract.
+// Laws of the slots that stand: they are those of the list. Each function's contract is a law.
 ghost use Rattle.dict_meaning.specs.Slots.{ListedStand};
 
 /// The list of slots has exactly those that stand.

@@ -1,4 +1,4 @@
-// Laws of steady facts. The function's contract is its laws.
+// Laws of steady facts: a test by rank tells which are. Each function's contract is a law.
 ghost use Rattle.dict_meaning.specs.Steady.{StepTellsSteady, TestTellsSteady};
 
 /// The test of a steady fact, by rank, tells. A fact is steady where its body has no IsComplete and all that it mentions is

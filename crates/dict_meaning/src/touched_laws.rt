@@ -1,4 +1,4 @@
-// A law of what a change touches, as the function's contract.
+// Laws of what a change touches: every other slot keeps its result. Each function's contract is a law.
 ghost use Rattle.dict_meaning.specs.Touched.{UntouchedKeeps};
 
 /// A slot that stands and that a change doesn't touch keeps its result.

@@ -1,4 +1,4 @@
-// The types of results. Each function's contract is the theorem.
+// Laws of the types of results: plain evaluation gives values of the facts' types. Each function's contract is a law.
 ghost use Rattle.dict_meaning.specs.TypedResults.{TypedResults};
 
 /// In an accepted dictionary, over answers that fit it, plain evaluation gives values of the facts' types.

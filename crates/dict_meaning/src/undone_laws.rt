@@ -1,4 +1,4 @@
-// What a change did, read off the answers after it and the change that undoes it. Each function's contract is its laws.
+// Laws of the change that undoes another: it tells what the other did. Each function's contract is a law.
 ghost use Rattle.dict_meaning.specs.Undone.{CameTells, DiffersTells, ExtendedTells, FirstTells, WentTells};
 
 /// Which slots came with a change, which went with it, and of which the answer, the override or the list differs.

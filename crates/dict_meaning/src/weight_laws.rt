@@ -1,4 +1,4 @@
-// A law of weights, as the function's contract.
+// Laws of weights: a Filter or a Find weighs by the members of its collection. Each function's contract is a law.
 ghost use Rattle.dict_meaning.specs.Weights.{PickWeighs};
 
 /// A Filter or a Find weighs 1, and what its condition weighs as often as its collection has members.

@@ -1,4 +1,4 @@
--- What holds of the facts of every dictionary.
+-- Laws of mentions and ranks in the graph of every dictionary.
 use Rattle.std.specs.Prelude.{◌≡◌, ℕ, ◌<◌, List, IsTrue, Result, Ok, Err}
 use Rattle.std.specs.Global.{Vec}
 use Rattle.dict_source.specs.Dictionary.{Dictionary}

@@ -1,4 +1,4 @@
--- What holds of ranks and of facts that reach themselves, in every graph.
+-- Laws of ranks and of facts that reach themselves, in every graph.
 use Rattle.std.specs.Prelude.{◌≡◌, ℕ, ◌+◌, ◌<◌, ◌≤◌, ◌↔◌, List, [], length, IsTrue}
 use Rattle.dict_order.specs.Graph.{Graph, mentioned, Mentions, Reaches, HasNoCycle}
 use Rattle.dict_order.specs.Ranks.{AreRanks, are_ranks, rank_of}

@@ -1,4 +1,4 @@
--- What the order of facts is.
+-- What ordering facts gives: their ranks, or the first fact that reaches itself.
 use Rattle.std.specs.Prelude.{ℕ, Result, Ok, Err}
 use Rattle.std.specs.Global.{Vec}
 use Rattle.dict_order.specs.Graph.{Graph, IsFirstCycle}

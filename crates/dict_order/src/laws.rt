@@ -1,5 +1,4 @@
-// What holds of ranks in every graph, and in that of every dictionary. Each function's contract is the
-// theorem.
+// Laws of ranks: in every graph, and in the graph of every dictionary. Each function's contract is a law.
 ghost use Rattle.dict_order.specs.DictionaryLaws.{DictHasNoCycle, DictMentionsFacts, DictRanksFall, GraphIsOfMentions, WrittenRanksAreAnswered};
 ghost use Rattle.dict_order.specs.Laws.{RankIsOneMore, RankOfNoneIsZero, RanksAreOnly, RanksAreSmall, RanksExcludeCycles, RanksExist, RanksFall, RanksFallAlong, TestTellsRanks, TestedListIsRanks};
 

@@ -1,4 +1,4 @@
-// The graph of a dictionary.
+// Makes the graph of a dictionary: which fact mentions which.
 ghost use Rattle.std.specs.Prelude.{◌≡◌, ◌≤◌, length, IfOk};
 ghost use Rattle.dict_source.specs.Dictionary.{dictionary_view};
 ghost use Rattle.dict_order.specs.Graph.{graph_of, mentioned};

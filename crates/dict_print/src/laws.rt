@@ -1,4 +1,4 @@
-// Laws of the printed form. The function's contract is its laws.
+// Laws of the printed form: it spells the dictionary. Each function's contract is a law.
 ghost use Rattle.dict_print.specs.Laws.{PrintedIsShallow, PrintedSpells};
 
 /// What is printed of a dictionary spells it, and nests no deeper than a reader of JSON takes.

@@ -1,4 +1,4 @@
-// Builds the JSON value of a node of what stands behind its name.
+// Builds the JSON value of a node, from its name and what stands behind it.
 ghost use Rattle.std.specs.Prelude.{◌≡◌, IfOk, OnOk};
 ghost use Rattle.serde_json.specs.Data.{array, item, no_items, string};
 ghost use Rattle.serde_json.specs.View.{view as json, items_view};

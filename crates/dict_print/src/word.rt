@@ -1,4 +1,4 @@
-// The names of nodes.
+// The names of nodes, as they are printed.
 ghost use Rattle.std.specs.Prelude.{◌≡◌};
 ghost use Rattle.fact_json.specs.Names.{many_name, one_name, pick_name, read_name, two_name};
 

@@ -1,4 +1,4 @@
-// Why the types of a dictionary are refused.
+// Why a dictionary is refused for its paths, types or limits.
 ghost use Rattle.std.specs.Prelude.{◌≡◌};
 ghost use Rattle.dict_rules.specs.declared.fault.TypeFault.TheVariants as faults;
 

@@ -1,4 +1,5 @@
-// Laws of the rules of paths. Each function's contract is its laws.
+// Laws of the rules of paths: their tests say what the rules say in their own words, and the fact that is named is the first.
+// Each function's contract is a law.
 ghost use Rattle.dict_rules.specs.FirstFact.{FirstIsLeast, NonePasses};
 ghost use Rattle.dict_rules.specs.RuleWords.{BadPathsAreByRule, NoCollectionsAreByRule, UnknownPathsAreByRule, WrongPlacesAreByRule};
 

@@ -1,4 +1,4 @@
-// The uses of paths in a fact, each with what uses it.
+// The rules that a use of a path may break, tested over all uses in a fact.
 ghost use Rattle.std.specs.Prelude.{◌≡◌, option_map};
 ghost use Rattle.dict_source.specs.Dictionary.{dictionary_view};
 ghost use Rattle.dict_source.specs.Facts.{conditional_view, fact_view};
@@ -9,8 +9,8 @@ ghost use Rattle.dict_rules.specs.UseRules.{use_breaks};
 
 use crate::bad_path::is_bad_use;
 use crate::no_collection::use_lacks_list;
-use crate::use_op::UseOp;
 use crate::unknown_path::is_unknown_use;
+use crate::use_op::UseOp;
 use crate::wrong_place::is_misplaced;
 use dict_source::{Case, Conditional, DictSource, Expr, FactSource, PathUse, ReadOp};
 

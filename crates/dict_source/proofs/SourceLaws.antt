@@ -1,4 +1,4 @@
--- What a `DictSource` keeps, when it is made and when a fact is pushed.
+-- What is true of every `DictSource` holds when one is made, and when a fact is pushed.
 use Rattle.std.proofs.Common.{cond, Option, Result, Ok, Err, ◌≡◌, ℕ, suc, ◌≤◌, Bool, false, List, [], ◌∷◌, ◌++◌, map, length, refl, sym, ap, subst, ◌∙◌, arith}
 use Rattle.std.specs.Prelude.{nat_lt, is_ok, is_err, OnOk}
 use Rattle.std.proofs.lemmas.Bool.{true≢false}

@@ -1,4 +1,4 @@
--- What a maker of a part of a dictionary answers.
+-- What a reader of a part of a dictionary gives: the part, the fault `Shape`, or want of memory.
 use Rattle.std.specs.Prelude.{◌≡◌, Option, Some, None, Result, Ok, Err}
 use Rattle.dict_source.specs.declared.read_fault.ReadFault.{ReadFault}
 use Rattle.dict_source.specs.declared.read_fault.ReadFault.TheVariants.{Shape, NoMemory}

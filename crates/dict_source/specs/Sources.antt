@@ -1,4 +1,4 @@
--- What a `DictSource` keeps.
+-- What is true of every `DictSource`.
 use Rattle.std.specs.Prelude.{List}
 use Rattle.dict_source.specs.Dictionary.{Written, dictionary_view, IsValid}
 use Rattle.dict_source.specs.PathIndex.{Entry, IsIndex}

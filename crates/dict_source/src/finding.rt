@@ -1,4 +1,4 @@
-// The texts of paths, by which facts are found.
+// Builds the texts of paths, by which facts are found.
 ghost use Rattle.std.specs.Prelude.{◌≡◌};
 ghost use Rattle.fact_paths.specs.Names.{IsName};
 ghost use Rattle.fact_paths.specs.Paths.{fact_path_text};

@@ -1,4 +1,4 @@
-// Tables of a dictionary: values by keys that rise.
+// The tables of a dictionary: values by keys that rise.
 ghost use Rattle.std.specs.Prelude.{◌≡◌, IfOk, option_copied, map, pos};
 ghost use Rattle.std.specs.List.{list_all};
 ghost use Rattle.dict_source.specs.Tables.{IsLookupTable, are_keys as keys_are, is_key_type as type_of_keys, is_kind as kind_of, is_ratio as same_ratio, key_value, table_named, value_for, if_table, table_with_rows};

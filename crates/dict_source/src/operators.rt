@@ -1,4 +1,4 @@
-// The operations of nodes.
+// The operations of nodes, as enums.
 ghost use Rattle.std.specs.Prelude.{◌≡◌, IfOk};
 
 use crate::lookup_table::LookupTable;

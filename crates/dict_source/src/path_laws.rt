@@ -1,4 +1,5 @@
-// Laws of the facts that paths name. Each function's contract is the laws.
+// Laws of paths: which facts each form names, the first of those with one path, and where it names none. Each function's contract
+// is a law.
 ghost use Rattle.dict_source.specs.PathLaws.{EachRow, FindsNothing, FindsTheFirst, FirstIsThere, GlobalRow, InnerNowhere, InnerRow, SiblingNowhere, SiblingRow, SiblingThroughNowhere, SiblingThroughRow, ThroughRow};
 
 /// What is found by a path is the first fact that has it.

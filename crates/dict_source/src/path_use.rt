@@ -1,4 +1,4 @@
-// Paths in expressions, with what they spell.
+// Paths in expressions: the text of each, and the path that it spells.
 ghost use Rattle.std.specs.Prelude.{◌≡◌, IfOk};
 ghost use Rattle.dict_source.specs.View.{use_view, use_of};
 

@@ -1,4 +1,4 @@
--- Reading the tables of a dictionary of their JSON value.
+-- Reading the tables of a dictionary from their JSON value.
 use Rattle.std.specs.Prelude.{ℕ, ◌&&◌, nat_le, List, [], ◌∷◌, length, codes, Option, Some, None, option_map, option_and_then, if◌then◌else◌}
 use Rattle.serde_json.specs.Data.{Data, Items, no_items, item, Members}
 use Rattle.serde_json.specs.Find.{as_array, as_object, get}

@@ -1,4 +1,4 @@
-// Reads a dictionary of its JSON form.
+// Reads a dictionary from its JSON form.
 ghost use Rattle.std.specs.Prelude.{◌≡◌, ◌≤◌, ◌<◌, ◌^◌, ◌++◌, ◌∷◌, [], length, map, option_map, option_and_then, codes, IfErr, IfOk, IsTrue, OnOk};
 ghost use Rattle.serde_json.specs.Find.{as_array, get};
 ghost use Rattle.serde_json.specs.View.{view as json, items_view, members_view};

@@ -1,4 +1,4 @@
-// Reads lists of options of their JSON value.
+// Reads lists of options from their JSON value.
 ghost use Rattle.std.specs.Prelude.{◌≡◌, ◌++◌, ◌∷◌, [], not, IfOk, IsTrue, map, option_map, option_and_then, Some};
 ghost use Rattle.serde_json.specs.Find.{as_str, as_array};
 ghost use Rattle.serde_json.specs.View.{view as json, items_view, members_view};

@@ -1,4 +1,4 @@
-// Laws of reading and spelling. Each function's contract is its laws.
+// Laws of reading and spelling lists of options, tables and dictionaries. Each function's contract is a law.
 ghost use Rattle.dict_tree.specs.Laws.{GivenIsRead, ReadEnumIsSpelled, ReadIsGiven, ReadTableIsSpelled, SpelledEnumIsRead, SpelledTableIsRead};
 
 /// A list of options is read of a JSON value exactly where the value spells it.

@@ -1,4 +1,4 @@
-// Reads tables of their JSON value.
+// Reads tables from their JSON value.
 ghost use Rattle.std.specs.Prelude.{◌≡◌, IfSome, IsTrue, [], map, option_map, option_and_then, Some, codes};
 ghost use Rattle.serde_json.specs.Find.{as_array, get};
 ghost use Rattle.serde_json.specs.View.{view as json, items_view, members_view};

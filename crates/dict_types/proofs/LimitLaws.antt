@@ -1,4 +1,4 @@
--- Limits one after another.
+-- The limits of a fact, and of facts, read one after another.
 use Rattle.std.proofs.Common.{◌≡◌, ℕ, List, [], ◌∷◌, ◌++◌, Option, Some, None, option_map, refl, ap, sym, ◌∙◌, append_assoc}
 use Rattle.std.specs.Prelude.{option_and_then}
 use Rattle.value_text.specs.Enums.{Listed}

@@ -1,4 +1,4 @@
--- What is kept of a dictionary.
+-- What acceptance keeps of each fact: its type, its constants and its limits.
 use Rattle.std.specs.Prelude.{List, Option}
 use Rattle.fact_values.specs.declared.fact_type.FactType.{FactType}
 use Rattle.fact_values.specs.declared.value.Value.{Value}

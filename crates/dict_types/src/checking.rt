@@ -1,4 +1,4 @@
-// All rules of types in their order: a typed dictionary, or its first fault.
+// All rules of paths, types and limits, in their order: the types, constants and limits of a dictionary, or its first fault.
 ghost use Rattle.std.specs.Prelude.{◌≡◌, ◌≤◌, IfErr, IfOk, length};
 ghost use Rattle.text_checks.specs.Tables.{check_names};
 ghost use Rattle.dict_source.specs.Dictionary.{dictionary_view};

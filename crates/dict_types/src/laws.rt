@@ -1,4 +1,5 @@
-// Laws of what is found in a dictionary. Each function's contract is its laws.
+// Laws of typed dictionaries: types are found exactly where all rules are kept, and the fault that is named is the first. Each
+// function's contract is a law.
 ghost use Rattle.dict_types.specs.BadLimit.{BadLimitsAreByRule};
 ghost use Rattle.dict_types.specs.DictFaults.{FaultIsFirst, FirstIsNamed, TypedIsWellTyped, WellTypedIsFound};
 

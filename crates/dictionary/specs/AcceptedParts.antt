@@ -1,4 +1,4 @@
--- What contracts see of a `Dictionary`.
+-- A `Dictionary` as contracts see it.
 use Rattle.std.specs.Prelude.{ℕ, List, map}
 use Rattle.dict_source.specs.Dictionary.{Written, dictionary_view}
 use Rattle.dict_types.specs.TypedParts.{TypedDictionary}

@@ -1,4 +1,4 @@
--- What every `Dictionary` keeps.
+-- What is true of every `Dictionary`.
 use Rattle.std.specs.Prelude.{◌≡◌, ℕ, List, sum_by}
 use Rattle.dict_source.specs.Dictionary.{Dictionary as Tree}
 use Rattle.dict_source.specs.Facts.{fact_size}

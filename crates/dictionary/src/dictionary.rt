@@ -1,4 +1,4 @@
-// Dictionaries without a fault.
+// The type of accepted dictionaries, which have no fault.
 ghost use Rattle.std.specs.Prelude.{◌≡◌, ◌↔◌, ◌⊎◌, false, length, IfErr, IfOk, IsTrue};
 ghost use Rattle.text_checks.specs.Tables.{check_names, named_checks};
 ghost use Rattle.dict_source.specs.Dictionary.{dictionary_view};

@@ -1,4 +1,4 @@
-// A source that is proved to have no fault.
+// Accepts a source that is proved to have no fault.
 ghost use Rattle.std.specs.Prelude.{◌≡◌, [], IfOk};
 ghost use Rattle.dict_source.specs.Dictionary.{dictionary_view};
 ghost use Rattle.dict_meaning.specs.Accepted.{IsAccepted};

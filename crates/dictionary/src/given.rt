@@ -1,4 +1,4 @@
-// What a person gave to a slot.
+// The result of a writable fact at a slot, from its answer or from its list of members.
 ghost use Rattle.std.specs.Prelude.{◌≡◌, List, ℕ, option_copied, IfOk, Some};
 ghost use Rattle.answers.specs.Meaning.{answered};
 ghost use Rattle.answers.specs.WellFormed.{FromOne, WellFormed};

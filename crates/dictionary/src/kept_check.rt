@@ -1,4 +1,4 @@
-// The checks with which a dictionary was accepted.
+// The checks with which a dictionary was accepted, and whether it names any.
 ghost use Rattle.std.specs.Prelude.{◌≡◌, ◌==◌, ◌<◌, ◌^◌, ℕ, List, length, map, IfOk};
 ghost use Rattle.std.specs.List.{list_any};
 ghost use Rattle.text_checks.specs.Tables.{named_checks};

@@ -1,4 +1,5 @@
-// Laws of acceptance. Each function's contract is its laws.
+// Laws of acceptance: bytes have one dictionary or one fault at most, and what a fact mentions comes before it. Each function's
+// contract is a law.
 ghost use Rattle.dictionary.specs.ByRank.{MentionedComesFirst};
 ghost use Rattle.dictionary.specs.Faults.{AcceptedHasNoFault, OneDictionaryAtMost, OneFaultAtMost};
 

@@ -1,4 +1,4 @@
-// How many nodes there are.
+// Counts the nodes of expressions and facts.
 ghost use Rattle.std.specs.Prelude.{◌≡◌, ◌+◌, ◌≤◌, map, option_map, sum_by};
 ghost use Rattle.dict_source.specs.Tree.{size, size_of_cases, size_of_trees};
 ghost use Rattle.dict_source.specs.View.{cases_view, trees_view, view};

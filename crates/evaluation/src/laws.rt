@@ -1,5 +1,6 @@
-// Laws of evaluation. Each function's contract is the theorem. The type parameters are those of the tree (constants C, reads R
-// and collections P), the places S, the bases of conditions B and what is read X.
+// Laws of evaluation: what decides a result, its type, its work and what stays complete. Each function's contract is a law. The
+// type parameters are those of the tree (constants C, reads R and collections P), the places S, the bases of conditions B and
+// what is read X.
 ghost use Rattle.evaluation.specs.Agreement.{Coincidence, WeightCoincidence};
 ghost use Rattle.evaluation.specs.Completes.{CompleteCount, CompleteMany, CompleteOne, CompletePick, CompleteSize, CompleteSum, CompleteSwitch, CompleteThroughItem, CompleteTwo, DownNeverCompletes};
 ghost use Rattle.evaluation.specs.ByBases.{CoincidenceIn, CompleteStaysIn, WeightCoincidenceIn};

@@ -1,4 +1,5 @@
-// Laws of what is read. Each function's contract is its law.
+// Laws of what a slot reads: itself and what those read that it reads. While its missing answers are missing, its result stays.
+// Each function's contract is a law.
 ghost use Rattle.explain.specs.Missing.{MissingKeep, ReadsAreRecursive};
 
 /// A slot reads itself, and all that the slots read that it reads.

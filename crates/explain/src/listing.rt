@@ -1,4 +1,4 @@
-// The slots that stand, in order, of which those are taken that were found and are unanswered.
+// Lists the slots that a walk found and that are unanswered, in the order of those that stand.
 ghost use Rattle.std.specs.Prelude.{◌≡◌, ◌++◌, ◌∷◌, [], IfOk, OnOk, filter, map};
 ghost use Rattle.dict_source.specs.Finding.{IsNumber};
 ghost use Rattle.evaluation.specs.Results.{slot as slot_at};

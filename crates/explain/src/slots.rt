@@ -1,4 +1,4 @@
-// Which slots one slot reads, and whether it is unanswered.
+// Which slots a slot reads, and whether it is unanswered.
 ghost use Rattle.std.specs.Prelude.{◌≡◌, ◌++◌, is_none, option_map, IfOk, OnOk};
 ghost use Rattle.answers.specs.Answered.{value_of};
 ghost use Rattle.answers.specs.Meaning.{answered};

@@ -1,4 +1,4 @@
--- What a line leaves that a host gives.
+-- What a host's line leaves at a session.
 use Rattle.std.proofs.Common.{◌≡◌, inl, inr, refl, Option, None, ℕ, ◌<◌, ◌≤◌, Bool, true, false, nat_le, if◌then◌else◌, List, [], ◌∷◌, ◌++◌, length, length-append, Some, sym, ap, subst, ◌∙◌, arith}
 use Rattle.std.proofs.lemmas.Bool.Decides.{nat_tests}
 use Rattle.std.proofs.lemmas.List.{append-nil}

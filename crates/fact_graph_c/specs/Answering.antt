@@ -1,4 +1,4 @@
--- What a line that a host gives is answered, and what it leaves.
+-- What a host's line is answered at a session, and what it leaves.
 use Rattle.std.specs.Prelude.{◌≡◌, ℕ, Bool, true, false, nat_le, List, [], length, if◌then◌else◌}
 use Rattle.script_lines.specs.Lines.{ScriptLine, whole, long}
 use Rattle.graph_session.specs.Rules.{Rules, rules}

@@ -1,4 +1,4 @@
--- What a line that a host gives to a desk is answered, and what it leaves.
+-- What a host's line is answered at a desk, and what it leaves.
 use Rattle.std.specs.Prelude.{◌≡◌, ℕ, Bool, true, false, List, []}
 use Rattle.script_lines.specs.Joined.{joined}
 use Rattle.graph_session.specs.Rules.{Rules}

@@ -1,4 +1,4 @@
--- What a place for C holds.
+-- What a place holds in which C keeps an engine or a desk.
 use Rattle.std.specs.Prelude.{Option, Some, None}
 use base.Fml.{Fml, ftrue}
 use denote.RawPtr.{Ptr}

@@ -1,4 +1,4 @@
--- What is true of every engine.
+-- What is true of every engine and every desk that C holds.
 use Rattle.std.specs.Prelude.{◌≤◌, length}
 use Rattle.dict_meaning.specs.Accepted.{IsAccepted}
 use Rattle.dictionary.specs.AcceptedParts.{accepted, names_of}

@@ -1,4 +1,4 @@
-// What stands behind a handle.
+// What stands behind a handle of a session: the session, its watches, and what the last call said.
 ghost use Rattle.fact_graph_c.specs.Checks.{HasStandardChecks};
 
 use crate::text::Text;

@@ -1,4 +1,4 @@
-// What a call says, in memory.
+// The text that a call says, kept in memory for the host.
 ghost use Rattle.std.specs.Prelude.{◌≡◌, ◌+◌, ◌<◌, ◌≤◌, [], ◌++◌, length, take, drop, min, OnOk, vec_capacity};
 
 use fact_values::NoMemory;

@@ -1,4 +1,4 @@
--- Lists that are read of JSON values one by one: what a reader has so far, and what it makes of those that are left.
+-- Lists that are read from JSON values one by one: what a reader has so far, and what it makes of those that are left.
 use Rattle.std.proofs.Common.{◌≡◌, ℕ, zero, suc, ◌<◌, List, [], ◌∷◌, ◌++◌, length, drop, get_or, map, Option, Some, None, option_map, option_and_then, refl, sym, ap, ◌∙◌, arith}
 use Rattle.serde_json.specs.Data.{Data, Items, item}
 use Rattle.serde_json.specs.declared.value.Value.{Value}

@@ -1,4 +1,4 @@
--- What stands before the last `)`.
+-- The text before the last `)` of a stated type, as it is read.
 use Rattle.std.proofs.Common.{◌≡◌, ◌≢◌, ℕ, ◌+◌, ◌-◌, ◌==◌, Bool, true, false, cond, List, [], ◌∷◌, ◌++◌, length, take, Option, Some, None, option_map, Bor, refl, sym, ap, ◌∙◌, lit<}
 use Rattle.std.proofs.lemmas.Bool.{eqb-true}
 use Rattle.std.specs.Prelude.{MatchOption, option_copied}

@@ -1,4 +1,4 @@
--- Reading a fact of its JSON value.
+-- Reading a fact from its JSON value.
 use Rattle.std.specs.Prelude.{ℕ, Bool, true, ◌&&◌, List, [], ◌∷◌, codes, Option, Some, None, is_some, option_map, option_and_then, if◌then◌else◌, bytes_eq}
 use Rattle.std.specs.List.{list_any}
 use Rattle.serde_json.specs.Data.{Data, Items, no_items, item, Members, no_members, member}

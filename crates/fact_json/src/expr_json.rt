@@ -1,4 +1,4 @@
-// Reads an expression of its JSON value.
+// Reads an expression from its JSON value.
 ghost use Rattle.std.specs.Prelude.{◌≡◌, ◌<◌, length, drop, map, string_bytes, codes, Some, option_map, option_and_then};
 ghost use Rattle.serde_json.specs.Find.{as_str};
 ghost use Rattle.serde_json.specs.View.{view as json, items_view};

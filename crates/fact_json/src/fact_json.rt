@@ -1,4 +1,4 @@
-// Reads a fact of its JSON value.
+// Reads a fact from its JSON value.
 ghost use Rattle.std.specs.Prelude.{◌≡◌, map, option_map, option_and_then, string_bytes, codes, Some};
 ghost use Rattle.serde_json.specs.Find.{as_array, get};
 ghost use Rattle.serde_json.specs.View.{view as json, items_view, members_view};

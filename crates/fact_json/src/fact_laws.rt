@@ -1,4 +1,4 @@
-// Laws of reading and spelling expressions and facts. Each function's contract is its laws.
+// Laws of reading and spelling expressions and facts. Each function's contract is a law.
 ghost use Rattle.fact_json.specs.FactLaws.{ReadFactIsSpelled, ReadIsSpelled, ReadIsWellFormed, SpelledFactIsRead, SpelledIsRead};
 
 /// An expression is read of a JSON value exactly where the value spells it.

@@ -1,4 +1,4 @@
-//! Facts and expressions are read of JSON, exactly where a value spells them.
+//! Facts and expressions are read from JSON, exactly where a value spells them.
 #![tactic(auto)]
 
 mod expr_json;

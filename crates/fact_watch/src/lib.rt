@@ -1,4 +1,4 @@
-//! Watches: a party is told when a slot's result moves in a stated way. The relations are stored closures.
+//! Watches of a session: whoever put one is told when the slot's result moves in a stated way. The relations are stored closures.
 #![tactic(auto)]
 
 mod commands;

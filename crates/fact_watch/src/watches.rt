@@ -1,4 +1,4 @@
-// The watches of a session.
+// The watches of a session, and what each noted.
 ghost use Rattle.std.specs.Prelude.{◌≡◌, ◌↔◌, ◌<◌, ◌≤◌, ◌^◌, ◌∷◌, [], ◌++◌, Bool, false, ℕ, List, OnOk, OnErr, IfOk, IfSome, IsErrOf, IsTrue, None, length, slice_get, unwrap_or};
 ghost use Rattle.std.specs.Bool.{OnFalse, OnTrue};
 ghost use Rattle.std.specs.Option.{option_copied};

@@ -1,4 +1,4 @@
--- The first bytes come off a list.
+-- The first bytes are cut off a list.
 use Rattle.std.proofs.Common.{◌≡◌, ℕ, ◌+◌, ◌≤◌, List, ◌++◌, length, take, drop, sym, ◌∙◌, ap, arith, length-drop}
 use Rattle.std.proofs.lemmas.List.{take_at, drop-drop, length-take-le, take-append-drop}
 

@@ -1,4 +1,4 @@
--- The definitions at small values.
+-- Worked examples of devices, at small values.
 use Rattle.std.proofs.Common.{◌≡◌, ◌-◌, ◌^◌, [], ◌∷◌, Some, refl}
 use Rattle.fg_io.specs.Outside.{next_count}
 use Rattle.fg_io.specs.Sent.{Sent}

@@ -1,4 +1,4 @@
--- Counts that rise.
+-- Counts rise where they grew.
 use Rattle.std.proofs.Common.{inl, inr, arith}
 use Rattle.std.proofs.lemmas.Bool.{cases_lt}
 use Rattle.fg_io.specs.Laws.{RoseWhereItGrew}

@@ -1,4 +1,4 @@
--- The numbers of calls, from 1.
+-- The numbers of calls, from 1: which of them fail, and how faults are counted.
 use Rattle.std.specs.Prelude.{◌≡◌, ℕ, List, Contains}
 use Rattle.fg_io.specs.Outside.{Pulled, gave, faulted, next_count}
 

@@ -1,4 +1,5 @@
--- What the definitions come to.
+-- Laws of devices: a count rises where it grew or is at its greatest; known contents alone are answered; a missing name is a
+-- fault; a text is written whole exactly where no rest is left.
 use Rattle.std.specs.Prelude.{◌≡◌, ◌⊎◌, ℕ, ◌-◌, ◌^◌, ◌<◌, ◌≤◌, ◌↔◌, List, [], length, Vec, Result, Option, IfOk, IsErrOf}
 use Rattle.std.specs.Io.KnownBytes.{Appends}
 use Rattle.std.specs.declared.alloc.Global.{Global}

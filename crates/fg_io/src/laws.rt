@@ -1,4 +1,5 @@
-//! What the definitions come to. The contract of each function is a law about them.
+// Laws of devices: counts of faults, what is answered of known contents and of a missing name, and texts without a rest. Each
+// function's contract is a law.
 ghost use Rattle.fg_io.specs.Laws.{RoseWhereItGrew, ContentsAreAnswered, MissingIsFault, SentWithoutRestIsWhole};
 
 /// A count rose where it grew, or stands at the greatest `u64` now.
@@ -6,7 +7,7 @@ pub fn rose_where_it_grew()
     ensures { RoseWhereItGrew }
 {}
 
-/// Contents contents are answered as they are, or refused as too long exactly where they are so.
+/// Known contents are answered as they are, or not at all; they are refused as too long only where they are too long.
 pub fn contents_are_answered()
     ensures { ContentsAreAnswered }
 {}

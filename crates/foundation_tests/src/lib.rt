@@ -1,4 +1,4 @@
-//! The tests of the crates of the ground and of the first floors, which are proved once, without them.
+//! The tests of the lowest crates, which are themselves proved without tests.
 #![tactic(auto)]
 
 #[cfg(test)]

@@ -1,4 +1,4 @@
-// All and Any over lists of up to three results, against their rules.
+// Tests of `three_state`: All and Any over lists of up to three results, against their rules.
 use fact_values::{Dollar, Members, Text, Value, ValueFault, Whole};
 use std::alloc::Global;
 use three_state::{AllFold, AnyFold, Res, Strict, Verdict, down, finish, truth};

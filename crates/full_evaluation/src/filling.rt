@@ -1,4 +1,4 @@
-// All slots, fact by fact in the order of the ranks.
+// Fills a table with the results of all slots, fact by fact in the order of the ranks.
 ghost use Rattle.std.specs.Prelude.{◌≡◌, ◌+◌, ◌≤◌, ℕ, IsTrue, None, OnOk, sum_by};
 ghost use Rattle.fact_values.specs.declared.slot.Slot.{Slot as OneSlot};
 ghost use Rattle.answers.specs.Meaning.{answered};

@@ -1,4 +1,4 @@
--- From a refusal, or from none, to the step.
+-- From the first refusal, or from none, to the step that a command makes.
 use Rattle.std.proofs.Common.{◌≡◌, ℕ, Bool, true, false, not, if◌then◌else◌, List, [], ◌∷◌, ◌++◌, Option, Some, None, is_some, refl, sym, ap, ◌∙◌}
 use Rattle.std.specs.Prelude.{IfErr, Result, Ok, Err}
 use Rattle.fact_paths.specs.declared.slot_path.SlotPath.{SlotPath}

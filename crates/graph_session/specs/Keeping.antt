@@ -1,4 +1,4 @@
--- What every session keeps.
+-- What is true of every session.
 use Rattle.std.specs.List.{All}
 use Rattle.dict_source.specs.Dictionary.{Dictionary as Tree}
 use Rattle.session_undo.specs.UndoState.{UndoState, IsConsistent}

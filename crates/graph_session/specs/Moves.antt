@@ -1,4 +1,4 @@
--- Steps forth and back, by one definition.
+-- Steps forth and back along changes, by one definition.
 use Rattle.std.specs.Prelude.{Bool, List}
 use Rattle.script_lines.specs.declared.command.Command.{Command}
 use Rattle.script_lines.specs.declared.command.Command.TheVariants.{Undo, Redo}

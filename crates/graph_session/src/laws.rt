@@ -1,4 +1,4 @@
-// What holds wherever commands lead. The function's contract is the law.
+// Laws of commands: wherever they lead, the answers fit the dictionary. Each function's contract is a law.
 ghost use Rattle.graph_session.specs.Run.{CommandsLeadToFit};
 
 /// From the start, wherever commands lead, the answers fit the dictionary, and so they are an extension of themselves.

@@ -1,4 +1,4 @@
-// Steps along the history.
+// Steps along the history: undo and redo.
 ghost use Rattle.std.specs.Prelude.{◌≡◌, [], false, IfErr, OnErr, OnOk};
 ghost use Rattle.answers.specs.Meaning.{answered};
 ghost use Rattle.session_undo.specs.Directions.{reversed};

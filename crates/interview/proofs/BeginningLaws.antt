@@ -1,4 +1,4 @@
--- The answers at the start of a run: what they come from, and that they come to one end.
+-- The answers at the start of a run: where they come from, and that they are given or refused in one way alone.
 use Rattle.std.proofs.Common.{◌≡◌, ℕ, ◌≤◌, List, length, inl, inr, refl, sym, ap, subst, ◌∙◌, arith}
 use Rattle.fg_io.specs.Outside.{MayHold, Contents, missing}
 use Rattle.value_text.specs.Enums.{AreLists}

@@ -1,4 +1,4 @@
--- What a check comes to, and how it ends.
+-- A check has one end at most, and its steps lead to it.
 use Rattle.std.proofs.Common.{◌≡◌, ℕ, false, List, inl, inr, refl, sym, ap, subst, ◌∙◌}
 use Rattle.fg_io.specs.Outside.{Contents}
 use Rattle.dictionary.specs.declared.fault.DictFault.{DictFault}

@@ -1,4 +1,4 @@
--- The words of a load, its rules, and what it comes to.
+-- The words of a load, its rules, and the text that it gives.
 use Rattle.std.proofs.Common.{◌≡◌, ℕ, ◌<◌, ◌≤◌, List, [], ◌∷◌, length, Option, Some, Result, Ok, Err, inl, inr, refl, sym, ap, subst, ◌∙◌, arith}
 use Rattle.std.specs.Prelude.{codes, decimal, IfOk, Vec}
 use Rattle.std.specs.declared.alloc.Global.{Global}

@@ -1,4 +1,4 @@
--- A run comes to one end.
+-- A run has one end at most.
 use Rattle.std.proofs.Common.{◌≡◌, ℕ, List, inl, inr, sym, ap, subst, ◌∙◌}
 use Rattle.dictionary.specs.AcceptedParts.{Named}
 use Rattle.graph_session.specs.Rules.{Rules}

@@ -1,4 +1,4 @@
--- What a save comes to, and how its steps end.
+-- A save has one end at most, and its steps lead to it.
 use Rattle.std.proofs.Common.{◌≡◌, ◌≢◌, ℕ, List, Option, inl, inr, refl, sym, ap, subst, ◌∙◌}
 use Rattle.fg_io.specs.Outside.{Input, Output}
 use Rattle.std.specs.Io.KnownBytes.{Appends, Keeps}

@@ -1,4 +1,4 @@
--- A script that a text stands before.
+-- A script that begins behind a text already put: what was written and read, seen from after that text.
 use Rattle.std.proofs.Common.{◌≡◌, ℕ, ◌≤◌, List, [], ◌++◌, Option, inl, inr, subst}
 use Rattle.interview.specs.Given.{Did}
 use Rattle.std.specs.Io.KnownBytes.{Appends, Keeps}

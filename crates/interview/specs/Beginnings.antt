@@ -1,4 +1,4 @@
--- The answers at the start of a run: what they are judged by, and what comes of it.
+-- The answers at the start of a run: what they are judged by, and which they are.
 use Rattle.std.specs.Prelude.{◌≡◌, ◌⊎◌, ℕ, ◌<◌, ◌≤◌, List, [], length}
 use Rattle.fg_io.specs.Outside.{MayHold, Contents, holds}
 use Rattle.answers.specs.Answered.{Answered, start}

@@ -1,4 +1,4 @@
--- The lines that say what a dictionary and a saved text came to.
+-- The lines that say whether a dictionary is accepted, what its fault is, and where a saved text is refused.
 use Rattle.std.specs.Prelude.{ℕ, Bool, true, false, List, [], ◌++◌, codes}
 use Rattle.dictionary.specs.declared.fault.DictFault.{DictFault}
 use Rattle.dictionary.specs.declared.fault.DictFault.TheVariants.{TooLong, NotJson, Shape, TooMany, TooDeep, BadPath, DuplicatePath, NoCollection, UnknownPath, WrongPlace, UnknownCheck, IllTyped, BadLimit, Cycle, NoMemory}

@@ -1,4 +1,4 @@
--- What `gen` comes to, and how it ends.
+-- What `gen` is to give, and how it ends.
 use Rattle.std.specs.Prelude.{◌≡◌, ℕ, List, [], length}
 use Rattle.fg_io.specs.Outside.{Output}
 use Rattle.script_lines.specs.Joined.{joined}

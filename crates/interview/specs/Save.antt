@@ -1,4 +1,4 @@
--- What `save` comes to, and how its steps end.
+-- What `save` is to give, and how its steps end.
 use Rattle.std.specs.Prelude.{◌≡◌, ◌⊎◌, ℕ, ◌≤◌, false, List, [], length, Option}
 use Rattle.std.specs.Io.KnownBytes.{Consumes}
 use Rattle.fg_io.specs.Outside.{MayBe}

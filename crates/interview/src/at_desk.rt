@@ -1,4 +1,4 @@
-// A desk answers the lines of a script: they are those of several parties.
+// Answers the lines of a script by a desk: they are those of several parties.
 ghost use Rattle.std.specs.Prelude.{◌≡◌, ◌<◌, false};
 ghost use Rattle.shared_desk.specs.Desk.{Desk as Defined};
 ghost use Rattle.shared_desk.specs.DeskView.{StandsFor, rules_of};

@@ -1,4 +1,4 @@
-// Whether a dictionary is accepted.
+// Writes whether a dictionary is accepted, or its first fault.
 ghost use Rattle.std.specs.Prelude.{◌≡◌};
 ghost use Rattle.text_checks.specs.Tables.{named_checks};
 ghost use Rattle.dictionary.specs.AcceptedParts.{accepted};

@@ -1,4 +1,4 @@
-// Texts that end an interview.
+// Writes the texts that end an interview.
 ghost use Rattle.std.specs.Prelude.{◌≡◌, [], ◌∷◌, List, ℕ};
 ghost use Rattle.session_lines.specs.Replies.{line_with};
 ghost use Rattle.session_lines.specs.Writing.{WroteAs, pieces_of};

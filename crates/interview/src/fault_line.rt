@@ -1,4 +1,5 @@
-// The lines that say what a dictionary and a saved text came to. Nothing here takes memory.
+// The lines that say whether a dictionary is accepted, what its fault is, and where a saved text is refused. Nothing here takes
+// memory.
 ghost use Rattle.std.specs.Prelude.{◌≡◌, ◌+◌, ◌≤◌, [], ◌++◌, length, codes};
 ghost use Rattle.interview.specs.FaultLines.{accepted_line, at_fact, fault_line, fault_name as name_of_fault, fault_place, saved_refused_line};
 ghost use Rattle.session_lines.specs.Replies.{numbered};

@@ -1,4 +1,5 @@
-// Laws of the definitions, each the contract of a function that does nothing.
+// Laws of the defined interview: it has one end at most, the engines agree, and the devices are called in a stated order. Each
+// function's contract is a law.
 ghost use Rattle.interview.specs.CallOrder.{EachLineIsOnePiece, NameThenSaved, NoCallBehindAFailedOne};
 ghost use Rattle.interview.specs.CallOrder.{NothingIsFetched, PullsFollowReplies};
 ghost use Rattle.interview.specs.Engines.{EnginesAgree, LinesAgree, RunsAgree};

@@ -1,4 +1,4 @@
-// Who answers the lines of a script where nobody reads the replies.
+// Answers the lines of a script where nobody reads the replies.
 ghost use Rattle.std.specs.Prelude.{◌≡◌, ◌<◌, None, true};
 ghost use Rattle.interview.specs.Meanings.{Meaning, silently};
 

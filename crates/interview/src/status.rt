@@ -1,4 +1,4 @@
-// How an interview ends.
+// How an interview ends: its exit status.
 ghost use Rattle.std.specs.Prelude.{◌≡◌};
 ghost use Rattle.interview.specs.Codes.{code_of, name_of};
 

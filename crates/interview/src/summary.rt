@@ -1,4 +1,4 @@
-// The summary of a load.
+// Writes the summary of a load.
 ghost use Rattle.std.specs.Prelude.{◌≡◌, ◌++◌, ◌∷◌, [], length, IfOk, OnOk};
 ghost use Rattle.script_lines.specs.Lines.{lines_of};
 ghost use Rattle.session_lines.specs.Replies.{line_with};

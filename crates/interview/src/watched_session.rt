@@ -1,4 +1,4 @@
-// A session answers the lines of a script: they are those of one person.
+// Answers the lines of a script by a session: they are those of one person.
 ghost use Rattle.std.specs.Prelude.{◌≡◌, ◌<◌, true, false, IfOk};
 ghost use Rattle.answers.specs.Answered.{start};
 ghost use Rattle.graph_session.specs.Rules.{rules};

@@ -1,4 +1,4 @@
--- Whole facts by their nodes.
+-- Laws of the nodes of whole facts.
 use Rattle.std.specs.Prelude.{◌≡◌, ℕ, ◌+◌, if◌then◌else◌, List, Option, Some, None}
 use Rattle.fact_values.specs.declared.slot.Slot.{Slot}
 use Rattle.dict_source.specs.Dictionary.{Dictionary as Tree}

@@ -1,4 +1,4 @@
-// The nodes of all facts.
+// Compiles the nodes of all facts.
 ghost use Rattle.std.specs.Prelude.{◌≡◌, IfOk, map, option_copied, option_map};
 ghost use Rattle.dict_source.specs.Dictionary.{dictionary_view};
 ghost use Rattle.dict_types.specs.Typed.{numbered};

@@ -1,4 +1,4 @@
-// The node of an expression.
+// Compiles an expression to a node.
 ghost use Rattle.std.specs.Prelude.{◌≡◌, IfOk};
 ghost use Rattle.dict_source.specs.Dictionary.{dictionary_view};
 ghost use Rattle.dict_source.specs.Tree.{literal, one, pick, two};

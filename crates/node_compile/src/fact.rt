@@ -1,4 +1,4 @@
-// The nodes of a fact.
+// Compiles the nodes of a fact.
 ghost use Rattle.std.specs.Prelude.{◌≡◌, IfOk, option_map, true};
 ghost use Rattle.dict_source.specs.Dictionary.{dictionary_view};
 ghost use Rattle.dict_source.specs.Facts.{conditional_view, fact_view};

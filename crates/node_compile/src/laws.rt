@@ -1,4 +1,4 @@
-// Laws of whole facts. Each function's contract is the theorem.
+// Laws of the nodes of whole facts: they give what the facts give, and have their types. Each function's contract is a law.
 ghost use Rattle.node_compile.specs.Laws.{NodesGiveSlots, NodesMeetTypes, NodesVisitSlots, NodesWeighSlots};
 
 /// A slot's result is that of its fact's main node, or the override, the answer or the placeholder's,

@@ -1,4 +1,4 @@
-// The node of an operation with many operands.
+// Compiles an operation with many operands.
 ghost use Rattle.std.specs.Prelude.{◌≡◌, IfOk, IfSome};
 ghost use Rattle.dict_source.specs.Tree.{many};
 ghost use Rattle.node_eval.specs.View.{global_read, globals_view, trees_view, view};

@@ -1,4 +1,4 @@
-// What use paths and constants stand for.
+// What use paths and constants stand for in nodes: facts by their numbers, and values.
 ghost use Rattle.std.specs.Prelude.{◌≡◌, IfOk, option_and_then};
 ghost use Rattle.dict_source.specs.Dictionary.{dictionary_view};
 ghost use Rattle.dict_source.specs.Mentions.{condition_base};

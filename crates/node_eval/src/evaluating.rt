@@ -17,9 +17,9 @@ ghost use Rattle.evaluation.specs.Typed.{Domains};
 ghost use Rattle.evaluation.specs.Visits.{visits, visits_of_all, visits_of_cases};
 
 use crate::cells::Cells;
-use crate::node_position::NodePosition;
 use crate::globals::eval_globals;
 use crate::node::{Node, NodeCase, NodeRead, ResolvedPath};
+use crate::node_position::NodePosition;
 use crate::reads::{read, read_source, see_constant, see_dependency};
 use dict_source::{ManyOp, OneOp, PickOp, TwoOp};
 use fact_values::{NoMemory, Value};

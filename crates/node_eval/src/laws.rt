@@ -1,4 +1,5 @@
-// Laws of nodes over cells. Each function's contract is the theorem.
+// Laws of nodes over cells: the cells that one reads decide its result, and where it takes memory. Each function's contract is a
+// law.
 ghost use Rattle.node_eval.specs.NodeTypes.{TypedTakesMemory};
 ghost use Rattle.node_eval.specs.SlotsOf.{CellsDecide};
 

@@ -11,8 +11,8 @@ ghost use Rattle.node_eval.specs.Reached.{reached};
 ghost use Rattle.node_eval.specs.Dependencies.{collection, dependency, field, first_of, read_result, second_of};
 
 use crate::cells::{Cells, result_at};
-use crate::node_position::NodePosition;
 use crate::node::{NodeRead, ResolvedPath};
+use crate::node_position::NodePosition;
 use fact_values::{FactType, NoMemory, Slot, Value};
 use operations::{CountFold, ManyFold, SumFold, complete_test, members, size};
 use std::alloc::Global;

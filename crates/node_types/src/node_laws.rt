@@ -1,4 +1,5 @@
-// Laws of the types of nodes. Each function's contract is its laws.
+// Laws of the types of nodes: they are inferred, the first node at fault is named, and each constant has its value. Each
+// function's contract is a law.
 ghost use Rattle.node_types.specs.Constants.{ValuesAreOfNodes};
 ghost use Rattle.node_types.specs.FactTyping.{ReadsAreByRule};
 ghost use Rattle.node_types.specs.NodeFaults.{FirstFaultIsNamed, HadIsInferred, InferredIsHad, OneTypeAtMost};

@@ -1,4 +1,4 @@
--- What the folds give, from their start over a whole list.
+-- Laws of the folds: what each gives, from its start over a whole list.
 use Rattle.std.specs.Prelude.{◌≡◌, ℕ, true, List, [], map}
 use Rattle.fact_values.specs.declared.fact_type.FactType.{FactType}
 use Rattle.fact_values.specs.Members.{IsMemberList}

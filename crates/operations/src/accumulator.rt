@@ -1,4 +1,4 @@
-// What a node with many operands keeps, for each kind of node.
+// What is kept of the operands seen by a node with many, for each kind of node.
 ghost use Rattle.std.specs.Prelude.{◌≡◌, ◌<◌, ◌^◌, IsErr, OnErr, OnOk};
 ghost use Rattle.three_state.specs.Folds.{verdict_next};
 ghost use Rattle.fact_values.specs.Values.{HoldsMemory};

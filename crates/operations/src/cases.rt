@@ -1,4 +1,4 @@
-// A Switch over its cases.
+// Evaluates a Switch over its cases.
 ghost use Rattle.std.specs.Prelude.{◌≡◌};
 ghost use Rattle.operations.specs.CaseSteps.{case_step, truth_step};
 ghost use Rattle.three_state.specs.Folds.{down_unless};

@@ -1,4 +1,4 @@
-// What an operation with many operands keeps of their values.
+// What is kept of the values seen by an operation with many operands.
 ghost use Rattle.std.specs.Prelude.{◌≡◌, ◌<◌, ◌^◌, IsErr, OnErr, OnOk};
 ghost use Rattle.fact_values.specs.Values.{HoldsMemory};
 ghost use Rattle.operations.specs.ManyFolds.{calls_of, extreme_end, extreme_next, gathered_end, gathered_next, is_beyond};

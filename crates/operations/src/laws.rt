@@ -1,4 +1,5 @@
-// Laws of the folds. Each function's contract is the theorem.
+// Laws of folds: operands, fields and cases one by one give what the node gives of the whole list. Each function's contract is a
+// law.
 ghost use Rattle.operations.specs.Laws.{CountFolds, FilterFolds, FindSteps, ItemSteps, KeptAreMembers, ManyFolds, SumFolds, SwitchSteps};
 
 /// A fold that saw the operands in their order ends with the result of the node.

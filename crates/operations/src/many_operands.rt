@@ -9,8 +9,8 @@ ghost use Rattle.three_state.specs.Results.{ValueHoldsMemory};
 ghost use Rattle.three_state.specs.declared.res.Res.{Res};
 ghost use Rattle.three_state.specs.declared.res.Res.TheVariants.{Complete};
 
-use crate::gathered::Gathered;
 use crate::accumulator::Accumulator;
+use crate::gathered::Gathered;
 use crate::sum::summed_as;
 use dict_source::ManyOp;
 use fact_values::{NoMemory, Total, Value};

@@ -1,4 +1,4 @@
-// A value as a value of the type that it is known to have.
+// Takes a value as one of the type that it is known to have.
 ghost use Rattle.std.specs.Prelude.{◌≡◌};
 ghost use Rattle.evaluation.specs.Operations.{day_in, dollar_in, int_in, no_ratio, number_in, ratio_in};
 

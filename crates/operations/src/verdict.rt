@@ -1,4 +1,4 @@
-// Results of operations that need all of their operands.
+// Results of operations that need all of their operands, from the verdict on these.
 ghost use Rattle.std.specs.Prelude.{◌≡◌};
 ghost use Rattle.operations.specs.Sources.{verdict_on_source};
 ghost use Rattle.three_state.specs.Results.{after_verdict, is_true};

@@ -1,4 +1,4 @@
--- A final result stays.
+-- A final result stays under every extension of the answers.
 use Rattle.std.proofs.Common.{◌≡◌, ℕ, List, ◌||◌, IsTrue, Option, Some, is_some, sym, ◌∙◌}
 use Rattle.fact_values.specs.declared.slot.Slot.{Slot}
 use Rattle.fact_values.specs.declared.value.Value.{Value}

@@ -1,4 +1,4 @@
--- A result that stays.
+-- When a slot's result is complete, with the same value under every extension of the answers.
 use Rattle.std.specs.Prelude.{◌≡◌, Bool, true, false, Some}
 use Rattle.fact_values.specs.declared.slot.Slot.{Slot}
 use Rattle.fact_values.specs.declared.value.Value.{Value}

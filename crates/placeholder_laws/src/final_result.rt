@@ -1,4 +1,4 @@
-// Whether a slot's result is final.
+// Tells whether a slot's result is final.
 ghost use Rattle.std.specs.Prelude.{◌≡◌, IsTrue, option_copied};
 ghost use Rattle.dictionary.specs.AcceptedParts.{accepted};
 ghost use Rattle.dict_meaning.specs.Final.{is_complete_in, is_final as is_final_in};

@@ -1,4 +1,4 @@
-// The plain engine.
+// The plain engine: all results anew after each change.
 ghost use Rattle.std.specs.Prelude.{◌≡◌, ◌+◌, ◌<◌, ◌≤◌, false, IfOk, IsTrue, None, OnErr, OnOk, option_copied};
 ghost use Rattle.answers.specs.Answered.{Answered, start};
 ghost use Rattle.answers.specs.Meaning.{answered};

@@ -1,4 +1,4 @@
-// The result of one slot.
+// Evaluates one slot over the results so far.
 ghost use Rattle.std.specs.Prelude.{◌≡◌, ◌+◌, ◌≤◌, IfOk, OnOk, Some};
 ghost use Rattle.std.specs.FinMap as map;
 ghost use Rattle.answers.specs.Answered.{value_of};

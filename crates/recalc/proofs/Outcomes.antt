@@ -1,4 +1,4 @@
--- From a clause on what is answered to another.
+-- Leads from one clause on a result to another.
 use Rattle.std.proofs.Common.{IfOk}
 use Rattle.std.specs.Prelude.{OnOk}
 use Rattle.std.specs.declared.result.Result.{Result}

@@ -1,4 +1,4 @@
--- What the loop over the slots that wait does.
+-- Laws of the loop over the slots that wait.
 use Rattle.std.specs.Prelude.{◌≡◌, ◌≤◌, ℕ, Bool, false, ◌&&◌, IsTrue, List, [], ◌∷◌, ◌++◌, filter, sum_by}
 use Rattle.fact_values.specs.declared.slot.Slot.{Slot}
 use Rattle.recalc.specs.Spread.{Spread, is_in, is_touched, IsSpread, NoTwice}

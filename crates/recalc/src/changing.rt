@@ -1,4 +1,4 @@
-// The results over answers, from those before.
+// Leads from the results before a change of the answers to those after it.
 ghost use Rattle.std.specs.Prelude.{◌≡◌, ◌+◌, ◌≤◌, IfOk, OnErr, OnOk};
 ghost use Rattle.dict_meaning.specs.Touched.{touched_count};
 ghost use Rattle.dict_meaning.specs.Weights.{touched_weight};

@@ -1,4 +1,4 @@
-// The new result of a slot.
+// Evaluates the new result of a slot.
 ghost use Rattle.std.specs.Prelude.{◌≡◌, ◌+◌, ◌≤◌, IfOk, IsTrue, OnOk, Some};
 ghost use Rattle.answers.specs.Answered.{value_of};
 ghost use Rattle.answers.specs.Meaning.{answered};

@@ -1,4 +1,4 @@
-// The cells of a member that went.
+// Takes away the cells of a member that went.
 ghost use Rattle.std.specs.Prelude.{◌≡◌};
 ghost use Rattle.std.specs.FinMap as map;
 ghost use Rattle.fact_values.specs.declared.slot.Slot.{Slot as OneSlot};

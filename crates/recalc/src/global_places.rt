@@ -1,4 +1,4 @@
-// Where the slots of global facts stand in the order of the ranks.
+// Gives each slot of a global fact a place in the queue, in the order of the ranks.
 ghost use Rattle.std.specs.Prelude.{All};
 ghost use Rattle.dict_source.specs.Finding.{IsNumber};
 ghost use Rattle.dictionary.specs.AcceptedParts.{accepted};

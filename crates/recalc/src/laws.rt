@@ -1,4 +1,5 @@
-// The loop over the slots that wait, and what it leaves of a change of the answers. Each function's contract is its laws.
+// Laws of the loop over the slots that wait: it does exactly what a change of the answers touches, and what it replaced can be
+// put back. Each function's contract is a law.
 ghost use Rattle.recalc.specs.BetweenAnswers.{AllIsDone, ChangesSpread, EditMarks, SpreadTouches};
 ghost use Rattle.recalc.specs.BetweenAnswers.{StandingOnce, TouchedWeigh, UndonePasses};
 ghost use Rattle.recalc.specs.Laws.{DoneAreTouched, DoneWeighAll, DoneWeighLess, LowerSettle};

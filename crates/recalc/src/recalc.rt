@@ -1,4 +1,4 @@
-// The incremental engine.
+// The incremental engine: its type, and how it begins and changes.
 ghost use Rattle.std.specs.Prelude.{◌≡◌, ◌+◌, ◌<◌, ◌≤◌, ◌^◌, true, IfOk, None, OnErr, OnOk, Some, option_copied, if◌then◌else◌};
 ghost use Rattle.answers.specs.Answered.{Answered, start as start_answers};
 ghost use Rattle.answers.specs.Change.{Fits, applied};

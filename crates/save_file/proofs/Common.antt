@@ -22,7 +22,7 @@ pub use Rattle.dict_source.specs.Facts.{fact_size}
 pub use Rattle.dictionary.specs.AcceptedParts.{AcceptedParts}
 pub use Rattle.fact_paths.specs.Cuts.{IsFirstAt}
 pub use Rattle.graph_session.proofs.NamingLaws.{found_number}
-pub use Rattle.graph_session.specs.Kinds.{is_given, value_spelled}
+pub use Rattle.graph_session.specs.Judging.{is_given, value_spelled}
 pub use Rattle.graph_session.specs.Naming.{fact_of, lacks_member, member_of, named_fact, path_of, slot_of}
 pub use Rattle.graph_session.specs.Refusals.{decided, first_of, limit_refusals, set_refusals, slot_found, value_refusals, when}
 pub use Rattle.graph_session.specs.Rules.{Rules, rules, tree_of}

@@ -1,4 +1,5 @@
--- Lines of a carried text that are those of a saved text over a dictionary: where they stand, with one more behind them, and those that come first.
+-- Lines of a carried text that a saved text over a dictionary has: where they stand, one more behind them, and those that come
+-- first.
 use Rattle.save_file.proofs.Common.{AllByRecursion, AreOwn, Bool, CarriedLine, CarriedRead, CarriedStage, CarriedText, Contains, Err, Global, Grows, IfOk, IsCarried, IsCarriedStage, IsHighest, IsNext, IsOf, IsOfUpTo, IsPositionOfLast, IsPrinted, IsTrue, JudgesLast, AcceptedParts, Lines, List, LoadFault, Member, NamesOther, None, Number, Ok, Opening, Option, Pairs, Result, Side, Some, TextLine, Tree, Value, Whole, [], accepted, ap, append_assoc, arith, carried_lines, codes, collection, cond, counted_from, entry, equal_bytes, fact_of, false, find, guarded, has_its_member, if◌then◌else◌, inl, inr, is_list_named, is_own, key_text, length, length-append, length-map, line_of, list_any, lists_member, map, member_place, members_by, members_in, members_named, nat_lt, nat_tests, none-some, option_map, place_in, position, position_behind, position_of_last, read_lines as lines_of, refl, same_Some, same_bytes, slice_get, stage_lines, start, subst, suc, sym, taken_value, texts_of, true, value_printed, ℕ, ◌*◌, ◌++◌, ◌+◌, ◌-◌, ◌<◌, ◌∙◌, ◌∷◌, ◌≡◌, ◌≢◌, ◌≤◌, ◌⊎◌}
 use Rattle.save_file.proofs.CarriedAnswers.{any_listed, spelled_fits, taken_takes}
 use Rattle.saved_text.proofs.CarriedLines.{pairs-push, pairs_before, pairs_front}

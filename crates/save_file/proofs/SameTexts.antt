@@ -1,4 +1,5 @@
--- The saved text of answers that fit an accepted dictionary: it is a carried text, it tells its answers, and its own dictionary keeps its lines, but for answers that are refused now.
+-- The saved text of answers that fit an accepted dictionary is a carried text and tells its answers. Its own dictionary keeps its
+-- lines, but for answers that are refused.
 use Rattle.save_file.proofs.Common.{Accepted, AllByRecursion, Answer, Answered, AnswersFit, AreLists, BadValue, Bool, CarriedLine, CarriedText, Contains, Fact, FactPath, Global, HasItsForm, HasPath, IsAccepted, IsBelowNext, IsCarried, IsCarry, IsCarryOf, IsIn, IsInOrder, IsKeptOrListed, IsName, IsRefusedAnswer, IsShort, IsSlot, IsSlotPath, IsSome, IsTrue, List, NamesOther, None, Option, Override, OwnLinesAreKept, Pairs, Refusal, Rules, SavedTextsAreCarried, SavedTextsTellAnswers, SharesNone, Side, Slot, SlotPath, Some, Tree, Value, [], and_intro, ap, append_assoc, arith, both, bytes_eq, carried, carried_lines, codes, collection, cond, count_by, end_line, entries, entry, entry_line, entry_lines, entry_lines_of, equal_bytes, fact_at, fact_of, fact_of_standing, fact_size, facts, false, false_from_ne_true, first_of, has_its_member, home, home_is_collection, if◌then◌else◌, inl, inr, is_collection_type, is_list, is_member, is_none, is_some, joined, keeps, kept_collection, key_text, length, limit_refusals, line_text, list_any, list_any-append, list_line, list_lines, list_lines_of, list_of, lists, lists_member, lists_member_of, ltb-false, map, map-append, mapped, member_below, member_list-length, name_short, named_fact, names_of, nat_eq, nat_lt, next_line, none-some, opening_line, opens_of, option_map, or_left, path_of, printed, printed_rest, rank, refl, same, same_Some, same_number, saved, saved_lines, side_word, slice_get, slot, slot_path, slot_path_of, slot_path_text, slot_same, slot_short, slot_text, slots, stands, subst, suc, sum_by, sym, takes, text_spells, too_many, tree_of, true, value_of, value_refusals, value_spelled, when, zero, ℕ, ◌&&◌, ◌++◌, ◌+◌, ◌<◌, ◌∙◌, ◌∷◌, ◌≡◌, ◌≤◌, ◌⊎◌}
 use Rattle.std.proofs.Common.{unwrap_or}
 use Rattle.save_file.specs.SavedLines.{EachAnswerIsKeptOrListed, HasALineEach, IsOnlyAt, IsSaid, KeepsOrListsAll, SavedTextsHaveALineEach}

@@ -13,7 +13,7 @@ use Rattle.value_text.specs.Enums.{AreLists}
 use Rattle.dict_meaning.specs.Accepted.{Accepted, IsAccepted}
 use Rattle.dictionary.specs.AcceptedParts.{names_of}
 use Rattle.dict_meaning.specs.Fits.{AnswersFit, is_answered_by, is_list, is_overridden_by}
-use Rattle.graph_session.specs.Kinds.{value_spelled}
+use Rattle.graph_session.specs.Judging.{value_spelled}
 use Rattle.graph_session.specs.Naming.{fact_of, slot_of}
 use Rattle.graph_session.specs.Refusals.{first_of, limit_refusals, value_refusals}
 use Rattle.graph_session.specs.Rules.{Rules, tree_of}

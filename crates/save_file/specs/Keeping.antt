@@ -9,7 +9,7 @@ use Rattle.answers.specs.Answered.{Answered}
 use Rattle.answers.specs.Change.{applied, sets}
 use Rattle.answers.specs.declared.edit.Side.{Side}
 use Rattle.dict_meaning.specs.Fits.{takes}
-use Rattle.graph_session.specs.Kinds.{value_spelled}
+use Rattle.graph_session.specs.Judging.{value_spelled}
 use Rattle.graph_session.specs.Naming.{fact_of, lacks_member, named_fact, slot_of}
 use Rattle.saved_text.specs.CarriedText.{CarriedLine, collection, entry, members_in}
 use Rattle.save_file.specs.Carrying.{kept_collection}

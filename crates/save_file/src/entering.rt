@@ -1,4 +1,4 @@
-// Gives slots the values of entries.
+// Puts the values of kept lines into the answers, slot by slot.
 ghost use Rattle.std.specs.Prelude.{◌≡◌, IfErr, OnOk, Some, map, string_bytes};
 ghost use Rattle.answers.specs.Change.{Fits, applied, sets};
 ghost use Rattle.answers.specs.Meaning.{answered, change};

@@ -1,4 +1,4 @@
-// Which lines of a carried text are kept over a dictionary.
+// Decides which lines of a carried text are kept over a dictionary.
 ghost use Rattle.std.specs.Prelude.{◌≡◌, IfErr, IfOk, option_map, string_bytes};
 ghost use Rattle.text_checks.specs.Tables.{named_checks};
 ghost use Rattle.dict_source.specs.Finding.{IsNumber};

@@ -1,4 +1,5 @@
-// Laws of what saved and carried texts give. Each function's contract is its law.
+// Laws of saved and carried texts: which answers they give, and which lines are kept or dropped. Each function's contract is a
+// law.
 ghost use Rattle.save_file.specs.Carrying.{CarryingGivesOne, EachLineIsKeptOrListed, OwnLinesAreKept, SavedTextsAreCarried};
 ghost use Rattle.save_file.specs.Loading.{SavedTextsTellAnswers};
 ghost use Rattle.save_file.specs.SavedLines.{EachAnswerIsKeptOrListed, SavedTextsHaveALineEach};

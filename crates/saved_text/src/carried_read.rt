@@ -1,4 +1,4 @@
-// The lines of a carried text that were read, and one more.
+// The lines of a carried text that were read so far, and how the next one is taken.
 ghost use Rattle.std.specs.Prelude.{◌≡◌, ◌||◌, ◌++◌, ℕ, List, codes, map, nat_eq, not, bytes_eq, IfErr, IfOk, OnOk, string_bytes};
 ghost use Rattle.std.specs.List.{list_all, list_any};
 ghost use Rattle.fact_paths.specs.Paths.{slot_path_text};

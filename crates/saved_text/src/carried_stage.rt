@@ -1,4 +1,4 @@
-// Takes the next line of a carried text, and says what a whole one gives.
+// How far a carried text was read: takes its next line, and says what a whole text gives.
 ghost use Rattle.std.specs.Prelude.{◌≡◌, ◌↔◌, ◌++◌, ◌∷◌, [], List, ℕ, IsTrue};
 ghost use Rattle.script_lines.specs.Lines.{HasNoNewline};
 ghost use Rattle.saved_text.specs.CarriedParsing.{EndsCarried, IsCarriedStage, IsRead, JudgesCarried, ReadsCarried, TakesText, new_or_fault};

@@ -1,4 +1,4 @@
-// A cursor over the slots that stand.
+// Goes through the slots that stand, one after another.
 ghost use Rattle.std.specs.Prelude.{◌≡◌};
 ghost use Rattle.answers.specs.Meaning.{answered};
 ghost use Rattle.dictionary.specs.AcceptedParts.{accepted};

@@ -1,4 +1,4 @@
-// The lines of answers and overrides.
+// Puts the lines of answers and overrides.
 ghost use Rattle.std.specs.Prelude.{◌≡◌, ◌+◌, ◌≤◌, ◌++◌, ◌∷◌, [], codes, length, option_copied, Some};
 ghost use Rattle.answers.specs.Answered.{value_of};
 ghost use Rattle.answers.specs.Meaning.{answered};

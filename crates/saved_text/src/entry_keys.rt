@@ -1,4 +1,4 @@
-// What the entries of a carried text name.
+// The texts of slots that the lines of a carried text name, each once.
 ghost use Rattle.std.specs.Prelude.{◌≡◌, ◌||◌, List, ℕ, bytes_eq, false, not, IfErr, IfOk, OnOk, string_bytes};
 ghost use Rattle.script_lines.specs.declared.fault.LineFault.TheVariants.{NoMemory};
 

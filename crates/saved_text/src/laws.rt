@@ -1,4 +1,4 @@
-// A law of carried texts. The function's contract is the law.
+// Laws of carried texts: each tells its lines. Each function's contract is a law.
 ghost use Rattle.saved_text.specs.CarriedText.{CarriedTextsTellLines};
 
 /// A carried text has one number of the next member, and one list of lines.

@@ -1,4 +1,4 @@
-// The lines of open collections.
+// Puts the lines of open collections.
 ghost use Rattle.std.specs.Prelude.{◌≡◌, ◌+◌, ◌*◌, ◌≤◌, ◌<◌, ◌++◌, ◌∷◌, [], length, IsTrue, Some};
 ghost use Rattle.std.specs.List.{list_all};
 ghost use Rattle.fact_values.specs.Members.{IsMemberList, is_member};

@@ -1,4 +1,4 @@
-// Puts lines.
+// Puts a line with its newline, as one piece.
 ghost use Rattle.std.specs.Prelude.{◌+◌, ◌<◌, ◌++◌, ◌∷◌, [], length};
 ghost use Rattle.saved_text.specs.Writing.{WroteAs};
 

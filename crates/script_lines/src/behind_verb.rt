@@ -1,5 +1,5 @@
-// The commands of more words, each from what stands behind its verb. Each has a function of its own, since a call clears all that
-// its function may hold, whichever arm is taken. The commonest is written out where it is called.
+// Reads the commands of more than one word, each from what stands behind its verb. Each has a function of its own, since a call
+// clears all that its function may hold, whichever arm is taken. The commonest is written out where it is called.
 ghost use Rattle.std.specs.Prelude.{◌≡◌};
 ghost use Rattle.script_lines.specs.Parsing.{Gives, command_with};
 ghost use Rattle.script_lines.specs.declared.verb.Verb.TheVariants as verbs;

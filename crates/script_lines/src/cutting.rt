@@ -1,4 +1,4 @@
-// Cuts the first line off.
+// Cuts the first line off bytes.
 ghost use Rattle.std.specs.Prelude.{◌≡◌, ◌<◌, ◌∷◌, IfNone, IfSome, length};
 ghost use Rattle.script_lines.specs.Lines.{HasNoNewline, IsNewlineAt, lines_of};
 

@@ -1,4 +1,5 @@
-// Theorems on the lines of a script and on what they spell. Each function's contract is one.
+// Laws of the lines of a script: how it is cut into them, and that a line spells one command at most. Each function's contract is
+// a law.
 ghost use Rattle.std.specs.Prelude.{◌≡◌, [], ◌∷◌, ◌++◌, List, ℕ};
 ghost use Rattle.std.specs.List.{AllByRecursion};
 ghost use Rattle.std.specs.Str.{IsUtf8};

@@ -1,4 +1,4 @@
-// The parts of a command behind its first word.
+// Reads the parts of a command behind its first word.
 ghost use Rattle.std.specs.Prelude.{◌≡◌, ◌≢◌, All, IfOk, IfErr, IfNone, IfSome, codes, option_copied, option_map};
 ghost use Rattle.fact_paths.specs.Cuts.{IsFirstAt, after};
 ghost use Rattle.fact_paths.specs.Parsing.{name_of};

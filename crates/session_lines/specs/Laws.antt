@@ -1,4 +1,4 @@
--- What holds of the replies of a session, wherever it came from.
+-- Laws of the replies of a session, wherever it came from.
 use Rattle.std.specs.Prelude.{◌≡◌, ℕ, List, [], ◌∷◌, ◌++◌, codes, IsSome, None}
 use Rattle.fact_paths.specs.declared.slot_path.SlotPath.{SlotPath}
 use Rattle.value_text.specs.Values.{printed}

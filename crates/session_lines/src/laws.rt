@@ -1,4 +1,5 @@
-// Laws of the replies, each the contract of a function that does nothing.
+// Laws of the replies of a session: what is printed as final stays, and `undo` gives back the answers before a change. Each
+// function's contract is a law.
 ghost use Rattle.session_lines.specs.Laws.{FinalLinesStay, UndoRestores};
 
 /// A value that is printed as final is that of a complete result, and both stay so under every extension of the answers then

@@ -1,4 +1,4 @@
-// Whose reply a line is.
+// The mark of a line of a reply: to whom it is told.
 ghost use Rattle.std.specs.Prelude.{◌≡◌, ◌≤◌, [], length};
 ghost use Rattle.session_lines.specs.Marks.{mark_text};
 

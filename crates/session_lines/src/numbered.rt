@@ -1,4 +1,4 @@
-// Texts with a number.
+// Appends a text and a number to a line.
 ghost use Rattle.std.specs.Prelude.{◌≡◌, ◌+◌, ◌≤◌, ◌++◌, length};
 ghost use Rattle.session_lines.specs.Replies.{numbered};
 

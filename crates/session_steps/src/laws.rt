@@ -1,4 +1,5 @@
-// What the commands of a session take and leave. Each function's contract is its laws.
+// Laws of the commands of a session: the steps that they take, and the results and stamps that they leave. Each function's
+// contract is a law.
 ghost use Rattle.std.specs.Prelude.{◌≡◌, false, IsTrue, Ok, Err};
 ghost use Rattle.dictionary.specs.AcceptedParts.{accepted};
 ghost use Rattle.dict_meaning.specs.Weights.{touched_weight};

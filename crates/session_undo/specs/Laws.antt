@@ -1,4 +1,4 @@
--- What holds of every history.
+-- Laws of every history.
 use Rattle.std.specs.Prelude.{◌≡◌, ℕ, List, length}
 use Rattle.answers.specs.Change.{Change, Fits, applied}
 use Rattle.answers.specs.WellFormed.{WellFormed}

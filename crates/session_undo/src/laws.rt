@@ -1,4 +1,4 @@
-// What holds of every history. Each function's contract is the theorem.
+// Laws of every history: undo gives back the answers before, and redo those after. Each function's contract is a law.
 ghost use Rattle.session_undo.specs.Laws.{UndoneIsBefore, UndoneKeepsEarlier, RedoneIsAfter, BackIsOverAnswers, ForthIsOverAnswers, ChangeIsOverAnswers, ForgettingIsOverAnswers, BackKeeps, ForthKeeps, ChangeKeeps, ForgettingKeeps};
 
 /// Undoing as many changes as were just made gives the answers before them, and leaves the earlier

@@ -10,7 +10,7 @@ use Rattle.answers.specs.Answered.{Answered, value_of}
 use Rattle.answers.specs.declared.edit.Side.TheVariants.{Answer, Override}
 use Rattle.dict_meaning.specs.Fits.{is_answered_by, is_list, is_overridden_by}
 use Rattle.session_undo.specs.Timeline.{Timeline}
-use Rattle.graph_session.specs.Kinds.{value_spelled}
+use Rattle.graph_session.specs.Judging.{value_spelled}
 use Rattle.graph_session.specs.Refusals.{first_of as first_session, slot_refusals, value_refusals, when}
 use Rattle.graph_session.specs.Naming.{fact_of, slot_of}
 use Rattle.graph_session.specs.Rules.{Rules, tree_of}

@@ -1,4 +1,5 @@
-// What holds of every list of lines. Each function's contract is its laws.
+// Laws of every list of lines at a desk: the session is over the accepted ones, and an edit over another party's change is stale.
+// Each function's contract is a law.
 ghost use Rattle.shared_desk.specs.Parties.{AcceptedAreAnswered, EditsFindWhatWasSeen, OnePartyIsAlone, SessionIsOverAccepted};
 ghost use Rattle.shared_desk.specs.StaleRule.{AnothersChangeIsStale, StaleIsAnothersChange};
 

@@ -1,4 +1,4 @@
-// Lists of parties.
+// Finds whose changes and entries are, and refuses a party a step over another's.
 ghost use Rattle.std.specs.Prelude.{◌≡◌, ◌∷◌, [], ◌++◌, ◌<◌, None, suc, take, vec_capacity, vec_len, OnErr, OnOk, IfErr};
 ghost use Rattle.graph_session.specs.declared.reply.Refusal.TheVariants.{NoMemory as WantOfMemory};
 ghost use Rattle.shared_desk.specs.Desk.{changer, entrant as entrant_at, first_early, is_party, other as other_party, stale_since as stale};

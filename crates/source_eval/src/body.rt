@@ -1,4 +1,4 @@
-// The result of a derived fact's body.
+// Evaluates the body of a derived fact.
 ghost use Rattle.std.specs.Prelude.{◌≡◌, ◌+◌, ◌≤◌, option_map, IfOk, OnOk, Some};
 ghost use Rattle.dict_source.specs.Facts.{conditional_view};
 ghost use Rattle.dict_source.specs.View.{view};

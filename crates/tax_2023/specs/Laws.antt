@@ -1,4 +1,5 @@
--- What is promised of the dictionary of a year.
+-- Laws of the dictionary of a year: to a household that answers all questions, and whose incomes are modest, it gives what the
+-- written tables give.
 use Rattle.std.specs.Prelude.{◌≡◌, ℕ, ◌<◌, ◌≤◌, pos, unsigned_abs, List, [], ◌∷◌, codes, length, Some}
 use Rattle.fact_values.specs.declared.value.Value.{Value}
 use Rattle.fact_values.specs.declared.value.Value.TheVariants.{Boolean, Choice, Dollar, Int, Members}

@@ -1,4 +1,5 @@
-// What holds of the dictionary of each year. The function's contract is the law.
+// Laws of the dictionary of each year: to a household that answers all questions, and whose incomes are modest, it gives what the
+// written tables give. Each function's contract is a law.
 ghost use Rattle.tax_2023.specs.Laws.{HouseholdAnswers, HouseholdIsThere, StatusesAreNamed, TablesHold};
 ghost use Rattle.tax_2023.specs.Years.{tables_of};
 ghost use Rattle.tax_2023.specs.declared.years.TaxYear.{TaxYear};

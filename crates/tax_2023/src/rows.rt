@@ -1,4 +1,4 @@
-// The facts of the dictionary of a year.
+// The rows of the dictionary of a year: its facts, written out.
 use crate::reads::*;
 use dict_source::ManyOp::{Add, All, Any, GreaterOf, LesserOf, Subtract};
 use dict_source::PickOp::{Filter, Find};

@@ -1,4 +1,4 @@
-// The source of the dictionary of each year.
+// Makes the source of the dictionary of each year, from its rows and figures.
 ghost use Rattle.std.specs.Prelude.{◌≡◌, List, IfOk, OnOk};
 ghost use Rattle.dict_source.specs.Dictionary.{dictionary_view};
 ghost use Rattle.written_facts.specs.Figures.{Named, figures_view};

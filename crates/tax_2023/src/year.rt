@@ -1,4 +1,4 @@
-// The dictionary of each year.
+// Accepts the dictionary of each year.
 ghost use Rattle.std.specs.Prelude.{◌≡◌, [], IfOk};
 ghost use Rattle.dictionary.specs.AcceptedParts.{accepted};
 ghost use Rattle.tax_2023.specs.Laws.{IsOfYear};

@@ -1,4 +1,5 @@
--- What is promised of the dictionary with the rate schedule and the child tax credit.
+-- Laws of the dictionary with the rate schedule and the child tax credit: to a household that answers all questions, and whose
+-- incomes are modest, it gives what the written tables give.
 use Rattle.std.specs.Prelude.{◌≡◌, ℕ, ◌*◌, ◌<◌, ◌≤◌, ◌≤ℤ◌, pos, List, [], ◌∷◌, codes, length}
 use Rattle.fact_values.specs.declared.value.Value.TheVariants.{Boolean, Dollar, Int}
 use Rattle.answers.specs.Answered.{Answered}

@@ -1,4 +1,4 @@
-// The dictionary of each year.
+// Accepts the dictionary of each year with the rate schedule and the child tax credit.
 ghost use Rattle.std.specs.Prelude.{◌≡◌, [], IfOk};
 ghost use Rattle.dictionary.specs.AcceptedParts.{accepted};
 ghost use Rattle.tax_income.specs.Laws.{IsOfIncome};

@@ -1,4 +1,5 @@
-// What holds of the dictionary of each year. The function's contract is the law.
+// Laws of the dictionary with the rate schedule and the child tax credit: to a household that answers all questions, and whose
+// incomes are modest, it gives what the written tables give. Each function's contract is a law.
 ghost use Rattle.tax_2023.specs.declared.years.TaxYear.{TaxYear};
 ghost use Rattle.tax_income.specs.Laws.{HouseholdAnswers, HouseholdIsThere, IncomeTablesHold, ThousandsAreLeast};
 ghost use Rattle.tax_income.specs.Years.{income_of};

@@ -1,4 +1,4 @@
-// The facts behind those of the year.
+// The rows that this crate adds to those of the year: the ends of the bands, the tax and the credit.
 use crate::reads::*;
 use dict_source::ManyOp::{Add, All, GreaterOf, LesserOf, Subtract};
 use dict_source::ReadOp::Count;

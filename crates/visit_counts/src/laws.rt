@@ -1,4 +1,5 @@
-// Laws of the nodes that are visited. The function's contract is the theorem.
+// Laws of the nodes that are visited: as many over any results of lower facts, and at most as many as the slot weighs. Each
+// function's contract is a law.
 ghost use Rattle.visit_counts.specs.SlotVisits.{SlotVisitsWithinWeight, VisitsOverLower};
 
 /// Over any results that have plain evaluation of the facts of lower rank, the evaluation of a slot visits

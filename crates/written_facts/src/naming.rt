@@ -1,4 +1,4 @@
-// Names that the program writes.
+// Makes the names and lists of names that the program writes.
 ghost use Rattle.std.specs.Prelude.{◌≡◌, ◌+◌, ◌++◌, ◌∷◌, ◌<◌, ◌^◌, [], not, length, map, vec_len, IfOk, IsTrue, OnOk};
 ghost use Rattle.std.specs.List.{list_all};
 ghost use Rattle.fact_paths.specs.Names.{IsName, is_name};

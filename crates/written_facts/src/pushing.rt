@@ -7,8 +7,8 @@ ghost use Rattle.written_facts.specs.WrittenFacts.{written_views};
 ghost use Rattle.written_facts.specs.Taking.{takes, takes_all, with_facts};
 
 use crate::figure::Figure;
-use crate::written_fact::WrittenFact;
 use crate::stating::fact_of;
+use crate::written_fact::WrittenFact;
 use dict_source::{DictSource, FactSource};
 use fact_values::NoMemory;
 use std::alloc::Global;

@@ -17,6 +17,6 @@ pub returns : goal.returns
 returns g c =
     let s = c.args.session.now in
     let count =
-        c.fact_count-before-end.ensures ∙ ap (λ (k : AcceptedParts). length (accepted k).tree.facts) c.dict.ensures in
+    c.fact_count-before-end.ensures ∙ ap (λ (k : AcceptedParts). length (accepted k).tree.facts) c.dict.ensures in
     c.loop-before.invariant
     ∙ ap (filter (is_listed s c.args.found.now)) (all_standing (tree_of s) s.timeline.now c.loop-before.before (ends c.loop-before.before c.fact_count-before-end.result (length (tree_of s).facts) c.loop-before.auto.before-end c.loop-before-test.false count))
