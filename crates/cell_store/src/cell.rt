@@ -2,6 +2,7 @@
 ghost use Rattle.std.specs.Prelude.{◌≡◌, not};
 ghost use Rattle.three_state.specs.Equality.{res_same};
 
+use fact_values::Value;
 use three_state::Res;
 
 /// What is kept at a slot.
@@ -22,10 +23,19 @@ pub struct Displaced {
 }
 
 impl Cell {
-    /// Whether its result is another than this one.
+    /// Whether its result is another than this one. Complete numbers, the most frequent results by far, are compared at once.
+    #[inline(always)]
     pub fn is_other(&self, res: &Res) -> bool
         ensures { result ≡ not (res_same self.now.res res.now) }
     {
-        !self.res.same(res)
+        match (&self.res, res) {
+            (Res::Complete(Value::Dollar(old)), Res::Complete(Value::Dollar(new))) => {
+                old.cents() != new.cents()
+            }
+            (Res::Complete(Value::Int(old)), Res::Complete(Value::Int(new))) => {
+                old.get() != new.get()
+            }
+            (old, new) => !old.same(new),
+        }
     }
 }

@@ -59,6 +59,7 @@ impl GlobalCells {
     }
 
     /// Whether the cell of a slot is among these.
+    #[inline(always)]
     pub fn has(&self, slot: Slot) -> bool
         ensures { result ≡ is_global self.now slot }
     {
@@ -83,6 +84,7 @@ impl GlobalCells {
     }
 
     /// Puts a cell for a fact, and hands back the one that was there, and whether its result was another.
+    #[inline(always)]
     #[tactic(auto, using(crate::proofs::NumberLaws::numbers))]
     pub fn put(&mut self, fact: u32, res: Res, stamp: u64) -> Displaced
         requires { fact < length self.old }
@@ -107,6 +109,7 @@ impl GlobalCells {
 }
 
 // Puts a cell in the place of another one, or of none.
+#[inline(always)]
 fn displace(place: &mut Option<Cell>, res: Res, stamp: u64) -> Displaced
     ensures cell { result.cell ≡ place.old }
     ensures moved { result.moved ≡ has_other place.old res }

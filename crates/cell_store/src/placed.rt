@@ -50,7 +50,8 @@ impl Placed {
         }
     }
 
-    /// Makes room for this many new slots.
+    /// Makes room for this many new slots. Mostly there is.
+    #[inline(always)]
     pub fn reserve(&mut self, n: u32) -> Result<(), NoMemory>
         ensures ok { OnOk result (self.new ≡ record self.old { room = max self.old.room n }) }
         ensures err { OnErr result (self.new ≡ self.old) }
@@ -59,6 +60,16 @@ impl Placed {
         if n <= self.room {
             return Ok(());
         }
+        self.make_room(n)
+    }
+
+    // The same where there isn't as much yet.
+    #[inline(never)]
+    fn make_room(&mut self, n: u32) -> Result<(), NoMemory>
+        requires { self.old.room < n }
+        ensures ok { OnOk result (self.new ≡ record self.old { room = max self.old.room n }) }
+        ensures err { OnErr result (self.new ≡ self.old) }
+    {
         self.places.reserve(n as usize)?;
         self.cells.reserve(n as usize)?;
         self.room = n;

@@ -67,6 +67,7 @@ impl Store {
     }
 
     /// Makes room for this many new slots.
+    #[inline(always)]
     pub fn reserve(&mut self, n: u32) -> Result<(), NoMemory>
         ensures ok { OnOk result (self.new ≡ record self.old { room = max self.old.room n }) }
         ensures err { OnErr result (self.new ≡ self.old) }
@@ -76,6 +77,7 @@ impl Store {
     }
 
     /// Puts a cell at a slot, and hands back the one that was there, and whether its result was another. It takes no memory.
+    #[inline]
     #[tactic(auto, using(crate::proofs::GlobalLaws::globals))]
     pub fn put(&mut self, slot: Slot, res: Res, stamp: u64) -> Displaced
         requires { map.get self.old.cells slot ≡ None → 0 < self.old.room }

@@ -2,7 +2,7 @@ use Rattle.std.proofs.Common.{◌≡◌, ap, ◌∙◌, arith}
 use Rattle.std.specs.Prelude.{Result, Ok, Err, OnErr}
 use Rattle.slab.specs.Slab.{slab_len, get as cell_in}
 use Rattle.cell_store.proofs.PlaceLaws.{contents_are, same_places, unchanged}
-use Rattle.cell_store.proofs.placed.Placed.reserve.Goals as goal
+use Rattle.cell_store.proofs.placed.Placed.make_room.Goals as goal
 
 pub invariant_of-self-in_err-reserve-2 : goal.invariant_of-self-in_err-reserve-2
 invariant_of-self-in_err-reserve-2 c =
@@ -28,7 +28,7 @@ returns-clause-ok c =
     let was : c.self.inside.room ≡ c.args.self.now.room = ap (λ v. v.room) c.self.view_is in
     contents_are
     (unchanged c.self.inside.cells c.reserve-2.new.self c.self.inside.places.entries c.reserve.new.self.entries c.reserve.ensures.entries.2 (λ r. ap (λ s. cell_in s r) kept) ∙ ap (λ v. v.cells) c.self.view_is)
-    (omega (arith, c.if-n-self.false))
+    (omega (arith, c.requires))
 
 always : {T E P : Type 0} (r : Result T E) → P → OnErr r P
 always (Ok x) h = tt
