@@ -1,4 +1,4 @@
 pub mod BitLaws
 pub mod DirtyLaws
 pub mod MarkLaws
-pub mod RowLaws
+pub mod MemberBitLaws

@@ -1,5 +1,5 @@
+pub mod MemberBits
 pub mod PlaceBits
 pub mod Places
-pub mod Rows
 pub mod Slots
 pub mod Waiting

@@ -3,7 +3,7 @@ pub use Rattle.dirty_slots.specs.Slots.{DirtySlots, Test, dirty_same, is_among, 
 use Rattle.std.specs.Prelude.{ℕ, Bool, ◌||◌}
 use Rattle.dirty_slots.specs.PlaceBits.{has_place, Words}
 use Rattle.dirty_slots.specs.Places.{marked}
-use Rattle.dirty_slots.specs.Rows.{has_in, Rows}
+use Rattle.dirty_slots.specs.MemberBits.{has_in, Rows}
 use Rattle.dirty_slots.specs.declared.dirty_slot.DirtySlot.{DirtySlot}
 
 -- those without a place: in the rows of their facts, and others

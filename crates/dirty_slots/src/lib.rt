@@ -3,9 +3,9 @@
 
 mod dirty_queue;
 mod dirty_slot;
+mod member_bits;
 mod place_bits;
 mod places;
-mod rows;
 mod unplaced;
 
 pub use dirty_queue::DirtyQueue;

@@ -1,12 +1,12 @@
 // The slots that wait and have no place, those of the lowest rank first.
 ghost use Rattle.std.specs.Prelude.{◌≡◌, ◌≤◌, ◌<◌, ◌^◌, ◌||◌, ◌&&◌, not, false, IfNone, IfOk, IfSome, IsTrue, OnErr, OnOk};
 ghost use Rattle.std.specs.BTreeSet.{btree_set_len};
-ghost use Rattle.dirty_slots.specs.Rows.{has_in, head_of, Headed, lower};
+ghost use Rattle.dirty_slots.specs.MemberBits.{has_in, head_of, Headed, lower};
 ghost use Rattle.dirty_slots.specs.Waiting.{dirty_same, is_among, is_unplaced};
 ghost use Rattle.dirty_slots.specs.declared.dirty_slot.DirtySlot.{DirtySlot as OneSlot};
 
 use crate::dirty_slot::DirtySlot;
-use crate::rows::{self, Row};
+use crate::member_bits::{self, MemberBits};
 use fact_values::NoMemory;
 use std::alloc::Global;
 use std::collections::BTreeSet;
@@ -20,13 +20,13 @@ use std::marker::Model;
 /// high number, or of a fact without a row, waits in a set of its own.
 #[derive(Drop)]
 pub struct UnplacedSlots {
-    rows: Vec<Row>,
+    rows: Vec<MemberBits>,
     heads: BTreeSet<DirtySlot>,
     others: BTreeSet<DirtySlot>,
 }
 
 impl Model for UnplacedSlots {
-    ghost use Rattle.dirty_slots.specs.Rows.{Headed};
+    ghost use Rattle.dirty_slots.specs.MemberBits.{Headed};
     ghost use Rattle.dirty_slots.specs.Waiting.{Unplaced};
 
     ghost Value = { Unplaced };
@@ -42,7 +42,7 @@ impl UnplacedSlots {
         requires { facts < 2 ^ 63 }
         ensures { IfOk result (λ queue. (q : OneSlot) → is_unplaced queue q ≡ false) }
     {
-        let rows = rows::new_rows(alloc, facts + 1)?;
+        let rows = member_bits::new_rows(alloc, facts + 1)?;
         Ok(UnplacedSlots {
             rows,
             heads: BTreeSet::new(alloc),
@@ -54,7 +54,7 @@ impl UnplacedSlots {
     pub fn clear(&mut self)
         ensures { (q : OneSlot) → is_unplaced self.new q ≡ false }
     {
-        rows::clear(&mut self.rows);
+        member_bits::clear(&mut self.rows);
         self.heads.clear();
         self.others.clear();
     }
@@ -65,13 +65,13 @@ impl UnplacedSlots {
         ensures ok { OnOk result ((q : OneSlot) → is_unplaced self.new q ≡ (dirty_same q dirty || is_unplaced self.old q)) }
         ensures err { OnErr result ((q : OneSlot) → is_unplaced self.new q ≡ is_unplaced self.old q) }
     {
-        if !rows::is_of(&mut self.rows, dirty) {
+        if !member_bits::is_of(&mut self.rows, dirty) {
             return add_to(&mut self.others, dirty);
         }
-        if rows::first_of(&mut self.rows, dirty).is_none() {
+        if member_bits::first_of(&mut self.rows, dirty).is_none() {
             add_to(&mut self.heads, head_of(dirty))?;
         }
-        rows::put(&mut self.rows, dirty)
+        member_bits::put(&mut self.rows, dirty)
     }
 
     /// Takes out one of the lowest rank.
@@ -94,7 +94,7 @@ impl UnplacedSlots {
     pub fn remove(&mut self, dirty: DirtySlot)
         ensures { (q : OneSlot) → is_unplaced self.new q ≡ (is_unplaced self.old q && not (dirty_same q dirty)) }
     {
-        rows::remove(&mut self.rows, dirty);
+        member_bits::remove(&mut self.rows, dirty);
         take_from(&mut self.others, dirty);
     }
 
@@ -156,7 +156,7 @@ fn lower(p: Option<DirtySlot>, q: Option<DirtySlot>) -> Option<DirtySlot>
 }
 
 // A slot of the lowest rank in rows. Heads before it, of whose fact none waits, are taken out.
-fn first_headed(rows: &mut [Row], heads: &mut BTreeSet<DirtySlot>) -> Option<DirtySlot>
+fn first_headed(rows: &mut [MemberBits], heads: &mut BTreeSet<DirtySlot>) -> Option<DirtySlot>
     requires { Headed rows.old heads.old.keys }
     ensures none { IfNone result ((q : OneSlot) → has_in rows.old q ≡ false) }
     ensures some { IfSome result (λ dirty. IsTrue (has_in rows.old dirty)) }
@@ -166,7 +166,7 @@ fn first_headed(rows: &mut [Row], heads: &mut BTreeSet<DirtySlot>) -> Option<Dir
     ensures unchanged { rows.new ≡ rows.old }
 {
     while let Some(head) = lowest(heads) {
-        let found = rows::first_of(rows, head);
+        let found = member_bits::first_of(rows, head);
         if found.is_some() {
             return found;
         }

@@ -1,6 +1,6 @@
 use Rattle.std.proofs.Common.{◌≡◌}
 use Rattle.std.specs.BTreeSet.{btree_set_len}
-use Rattle.dirty_slots.specs.Rows.{Headed}
+use Rattle.dirty_slots.specs.MemberBits.{Headed}
 use Rattle.dirty_slots.proofs.unplaced.first_headed.Given as goal
 
 abbrev pub invariant-loop-head : goal.invariant-loop-head

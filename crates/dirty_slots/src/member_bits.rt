@@ -1,7 +1,7 @@
 // The members of facts that wait, as a bit for each in a row of its fact.
 ghost use Rattle.std.specs.Prelude.{◌≡◌, ◌<◌, ◌^◌, ◌&&◌, ◌||◌, ℕ, false, not, nat_eq, Some, slice_get, IfNone, IfOk, IfSome, IsTrue, OnErr, OnOk};
+ghost use Rattle.dirty_slots.specs.MemberBits.{has_in, in_row, is_of_rank};
 ghost use Rattle.dirty_slots.specs.PlaceBits.{has_place};
-ghost use Rattle.dirty_slots.specs.Rows.{has_in, in_row, is_of_rank};
 ghost use Rattle.dirty_slots.specs.Slots.{dirty_same};
 ghost use Rattle.dirty_slots.specs.declared.dirty_slot.DirtySlot.{DirtySlot as OneSlot};
 
@@ -15,16 +15,16 @@ const MEMBERS_IN_ROW: u32 = 8_192;
 
 /// The members of a fact that wait, and its rank.
 #[derive(Drop)]
-pub struct Row {
+pub struct MemberBits {
     rank: u32,
     members: PlaceBits,
 }
 
-impl Row {
-    pub fn new(alloc: Global) -> Row
+impl MemberBits {
+    pub fn new(alloc: Global) -> MemberBits
         ensures { (q : OneSlot) → in_row (Some result) q ≡ false }
     {
-        Row {
+        MemberBits {
             rank: 0,
             members: PlaceBits::empty(alloc),
         }
@@ -84,20 +84,20 @@ impl Row {
 }
 
 // So many rows, in which nothing waits.
-#[tactic(auto, using(crate::proofs::RowLaws::pushed))]
-pub fn new_rows(alloc: Global, count: usize) -> Result<Vec<Row>, NoMemory>
+#[tactic(auto, using(crate::proofs::MemberBitLaws::pushed))]
+pub fn new_rows(alloc: Global, count: usize) -> Result<Vec<MemberBits>, NoMemory>
     ensures { IfOk result (λ rows. (q : OneSlot) → has_in rows.items q ≡ false) }
 {
     let mut rows = Vec::with_capacity(alloc, count)?;
     for _ in 0..count {
-        rows.push(Row::new(alloc))?;
+        rows.push(MemberBits::new(alloc))?;
     }
     Ok(rows)
 }
 
 // Whether this slot waits in the row of its fact: the row is of its rank, as one becomes that had no member.
 #[inline(always)]
-pub fn is_of(rows: &mut [Row], slot: DirtySlot) -> bool
+pub fn is_of(rows: &mut [MemberBits], slot: DirtySlot) -> bool
     ensures rank { IsTrue result → IsTrue (is_of_rank (slice_get rows.new slot.fact) slot) }
     ensures same { (q : OneSlot) → has_in rows.new q ≡ has_in rows.old q }
 {
@@ -107,7 +107,7 @@ pub fn is_of(rows: &mut [Row], slot: DirtySlot) -> bool
 
 // The first slot of this fact and rank that waits.
 #[inline(always)]
-pub fn first_of(rows: &mut [Row], head: DirtySlot) -> Option<DirtySlot>
+pub fn first_of(rows: &mut [MemberBits], head: DirtySlot) -> Option<DirtySlot>
     ensures none { IfNone result ((q : OneSlot) → q.rank ≡ head.rank → q.fact ≡ head.fact
         → has_in rows.old q ≡ false) }
     ensures some { IfSome result (λ slot. IsTrue (has_in rows.old slot)) }
@@ -129,7 +129,7 @@ pub fn first_of(rows: &mut [Row], head: DirtySlot) -> Option<DirtySlot>
 
 // Lets a slot wait in the row of its fact.
 #[inline(always)]
-pub fn put(rows: &mut [Row], slot: DirtySlot) -> Result<(), NoMemory>
+pub fn put(rows: &mut [MemberBits], slot: DirtySlot) -> Result<(), NoMemory>
     requires { IsTrue (is_of_rank (slice_get rows.old slot.fact) slot) }
     ensures ok { OnOk result ((q : OneSlot) → has_in rows.new q ≡ (dirty_same q slot || has_in rows.old q)) }
     ensures err { OnErr result ((q : OneSlot) → has_in rows.new q ≡ has_in rows.old q) }
@@ -140,7 +140,7 @@ pub fn put(rows: &mut [Row], slot: DirtySlot) -> Result<(), NoMemory>
 
 // Whether the row of this slot's fact is of its rank.
 #[inline(always)]
-fn is_ranked(rows: &[Row], slot: DirtySlot) -> bool
+fn is_ranked(rows: &[MemberBits], slot: DirtySlot) -> bool
     ensures { result ≡ is_of_rank (slice_get rows.now slot.fact) slot }
 {
     match rows.get(slot.fact as usize) {
@@ -151,7 +151,7 @@ fn is_ranked(rows: &[Row], slot: DirtySlot) -> bool
 
 // Takes this slot out, if it waits.
 #[inline(always)]
-pub fn remove(rows: &mut [Row], slot: DirtySlot)
+pub fn remove(rows: &mut [MemberBits], slot: DirtySlot)
     ensures { (q : OneSlot) → has_in rows.new q ≡ (has_in rows.old q && not (dirty_same q slot)) }
 {
     if is_ranked(rows, slot) {
@@ -160,8 +160,8 @@ pub fn remove(rows: &mut [Row], slot: DirtySlot)
 }
 
 // Nothing waits any more.
-#[tactic(auto, using(crate::proofs::RowLaws::cleared, crate::proofs::RowLaws::all_cleared))]
-pub fn clear(rows: &mut [Row])
+#[tactic(auto, using(crate::proofs::MemberBitLaws::cleared, crate::proofs::MemberBitLaws::all_cleared))]
+pub fn clear(rows: &mut [MemberBits])
     ensures { (q : OneSlot) → has_in rows.new q ≡ false }
 {
     let mut at = 0;

@@ -3,13 +3,13 @@ use Rattle.std.specs.Prelude.{◌^◌, Bool, false, ◌&&◌, IsTrue, nat_eq, na
 use Rattle.dirty_slots.specs.PlaceBits.{has_place}
 use Rattle.dirty_slots.specs.Slots.{DirtySlots, is_among, Test}
 use Rattle.dirty_slots.specs.declared.dirty_slot.DirtySlot.{DirtySlot}
-use Rattle.dirty_slots.specs.declared.rows.Row.{Row}
+use Rattle.dirty_slots.specs.declared.member_bits.MemberBits.{MemberBits}
 
 abbrev pub Rows : Type 0
-Rows = List Row
+Rows = List MemberBits
 
 -- it waits in this row: the row is of its rank, and its member's bit is set
-abbrev pub in_row : Option Row → Test
+abbrev pub in_row : Option MemberBits → Test
 in_row None q = false
 in_row (Some row) q = nat_eq row.rank q.rank && (nat_lt q.member (2 ^ 32) && has_place row.members q.member)
 
@@ -25,7 +25,7 @@ abbrev pub Headed : Rows → DirtySlots → Type 0
 Headed rows heads = (q : DirtySlot) → IsTrue (has_in rows q) → IsTrue (is_among heads (head_of q))
 
 -- the row is there, and is of this rank
-abbrev pub is_of_rank : Option Row → DirtySlot → Bool
+abbrev pub is_of_rank : Option MemberBits → DirtySlot → Bool
 is_of_rank None q = false
 is_of_rank (Some row) q = nat_eq row.rank q.rank
 
