@@ -119,15 +119,17 @@ fn see_wholes<C: Cells, L: Ledger>(
     seen
 }
 
-// The result of an Add of which this was seen, once these facts are too.
+// The result of an Add of which this was seen, so many operands, once these facts are too.
 #[inline(always)]
 fn see_rest<C: Cells, L: Ledger>(
     alloc: Global,
     cells: &C,
     run: NumberRun,
+    count: u64,
     facts: &[u32],
     steps: &mut Steps<L>,
 ) -> Result<Res, NoMemory>
+    requires seen { count ≡ run.count }
     requires few { run.count + length facts.now < 2 ^ 64 }
     ensures value { IfOk result (λ r. r ≡ many_from run (map (global_result (C.results cells.now)) facts.now)) }
     ensures steps { OnOk result (steps.new ≡ steps.old + length facts.now) }
@@ -138,7 +140,7 @@ fn see_rest<C: Cells, L: Ledger>(
     if facts.is_empty() {
         return Ok(run.end());
     }
-    see_globals(alloc, cells, run.into_fold(), facts, steps)
+    see_globals(alloc, cells, run.into_fold(count), facts, steps)
 }
 
 // An Add over an amount of money, which is a step, and these facts.
@@ -159,8 +161,15 @@ fn add_amounts<C: Cells, L: Ledger>(
 {
     steps.tick();
     let mut run = NumberRun::of_amount(first);
-    let seen = see_amounts(cells, facts, &mut run, steps);
-    see_rest(alloc, cells, run, &facts[seen..], steps)
+    let amounts = see_amounts(cells, facts, &mut run, steps);
+    see_rest(
+        alloc,
+        cells,
+        run,
+        amounts as u64 + 1,
+        &facts[amounts..],
+        steps,
+    )
 }
 
 // An Add over a whole number, which is a step, and these facts.
@@ -181,8 +190,15 @@ fn add_wholes<C: Cells, L: Ledger>(
 {
     steps.tick();
     let mut run = NumberRun::of_whole(first);
-    let seen = see_wholes(cells, facts, &mut run, steps);
-    see_rest(alloc, cells, run, &facts[seen..], steps)
+    let wholes = see_wholes(cells, facts, &mut run, steps);
+    see_rest(
+        alloc,
+        cells,
+        run,
+        wholes as u64 + 1,
+        &facts[wholes..],
+        steps,
+    )
 }
 
 // An Add over these facts. Where the first of them is a number, those at the front that are numbers of its type are summed in

@@ -14,25 +14,23 @@ use std::marker::Model;
 use three_state::{Res, Strict};
 
 /// What an Add keeps while all operands that it saw are complete numbers of one type, of which there is at least one. It is small
-/// enough to stay in registers. Contracts see what a fold of these operands has.
+/// enough to stay in registers. Contracts see what a fold of these operands has, their count too: it is one more than the numbers
+/// that were added to the first, so no field has it.
 #[derive(Drop)]
 pub struct NumberRun {
-    count: u64,
     /// Whether the numbers are amounts of money, in cents.
     are_amounts: bool,
     total: Total,
 }
 
 impl Model for NumberRun {
-    ghost use Rattle.std.specs.Prelude.{◌≤◌};
+    ghost use Rattle.std.specs.Prelude.{◌+◌};
     ghost use Rattle.operations.specs.ManyFolds.{ManySeen};
     ghost use Rattle.operations.specs.NumberRuns.{numbers_seen};
 
     ghost Value = { ManySeen };
 
-    ghost view = { λ run. numbers_seen run.count run.are_amounts run.total };
-
-    ghost invariant = { λ run. run.total.calls ≤ run.count };
+    ghost view = { λ run. numbers_seen (run.total.calls + 1) run.are_amounts run.total };
 }
 
 impl NumberRun {
@@ -43,7 +41,6 @@ impl NumberRun {
         ensures amounts { are_amounts result.kept ≡ true }
     {
         NumberRun {
-            count: 1,
             are_amounts: true,
             total: Total::new(first.cents()),
         }
@@ -56,7 +53,6 @@ impl NumberRun {
         ensures wholes { are_wholes result.kept ≡ true }
     {
         NumberRun {
-            count: 1,
             are_amounts: false,
             total: Total::new(first.get()),
         }
@@ -72,7 +68,6 @@ impl NumberRun {
         ensures amounts { are_amounts self.new.kept ≡ true }
     {
         self.total.plus(amount.cents());
-        self.count += 1;
     }
 
     /// Sees the next operand, a whole number after others.
@@ -85,7 +80,6 @@ impl NumberRun {
         ensures wholes { are_wholes self.new.kept ≡ true }
     {
         self.total.plus(number.get());
-        self.count += 1;
     }
 
     /// The result of an Add that has no other operands.
@@ -101,15 +95,12 @@ impl NumberRun {
         after_verdict(Strict::new().verdict(), sum)
     }
 
-    /// The fold that saw them.
-    pub fn into_fold(self) -> ManyFold
+    /// The fold that saw them, which are so many.
+    pub fn into_fold(self, count: u64) -> ManyFold
+        requires { count ≡ self.count }
         ensures { result ≡ self }
     {
-        let NumberRun {
-            count,
-            are_amounts,
-            total,
-        } = self;
+        let NumberRun { are_amounts, total } = self;
         ManyFold::of_numbers(count, are_amounts, total)
     }
 }

@@ -6,4 +6,4 @@ use Rattle.node_eval.proofs.globals.add_amounts.Goals as goal
 
 pub returns-clause-memory : goal.returns-clause-memory
 returns-clause-memory g c is_err =
-    some_of_rest (λ fact. ValueHoldsMemory (global_result (g.C.Cells.results c.args.cells.now) fact)) c.see_amounts-seen.result (length c.args.facts.now - c.see_amounts-seen.result) c.args.facts.now (c.see_rest.ensures.memory is_err)
+    some_of_rest (λ fact. ValueHoldsMemory (global_result (g.C.Cells.results c.args.cells.now) fact)) c.see_amounts-amounts.result (length c.args.facts.now - c.see_amounts-amounts.result) c.args.facts.now (c.see_rest.ensures.memory is_err)

@@ -9,9 +9,9 @@ use Rattle.operations.proofs.number_run.NumberRun.see_amount.Goals as goal
 pub returns-clause-seen : goal.returns-clause-seen
 returns-clause-seen c =
     let exact : c.plus.new.self.exact ≡ c.self.inside.total.exact +ℤ c.args.amount = search rules in
-    (λ i. numbers_seen (c.self.inside.count + 1) c.self.inside.are_amounts (record {
+    (λ i. numbers_seen (c.plus.ensures.calls i + 1) c.self.inside.are_amounts (record {
       exact = exact i;
       calls = c.plus.ensures.calls i;
     }))
-    ∙ sym (amount_seen c.self.inside.count c.self.inside.are_amounts c.self.inside.total c.args.amount (ap (λ s. are_amounts s.kept) c.self.view_is ∙ c.requires.amounts))
+    ∙ sym (amount_seen (c.self.inside.total.calls + 1) c.self.inside.are_amounts c.self.inside.total c.args.amount (ap (λ s. are_amounts s.kept) c.self.view_is ∙ c.requires.amounts))
     ∙ ap (λ s. saw s (Complete (value.Dollar c.args.amount))) c.self.view_is

@@ -9,9 +9,9 @@ use Rattle.operations.proofs.number_run.NumberRun.see_whole.Goals as goal
 pub returns-clause-seen : goal.returns-clause-seen
 returns-clause-seen c =
     let exact : c.plus.new.self.exact ≡ c.self.inside.total.exact +ℤ c.args.number = search rules in
-    (λ i. numbers_seen (c.self.inside.count + 1) c.self.inside.are_amounts (record {
+    (λ i. numbers_seen (c.plus.ensures.calls i + 1) c.self.inside.are_amounts (record {
       exact = exact i;
       calls = c.plus.ensures.calls i;
     }))
-    ∙ sym (whole_seen c.self.inside.count c.self.inside.are_amounts c.self.inside.total c.args.number (ap (λ s. are_wholes s.kept) c.self.view_is ∙ c.requires.wholes))
+    ∙ sym (whole_seen (c.self.inside.total.calls + 1) c.self.inside.are_amounts c.self.inside.total c.args.number (ap (λ s. are_wholes s.kept) c.self.view_is ∙ c.requires.wholes))
     ∙ ap (λ s. saw s (Complete (value.Int c.args.number))) c.self.view_is
