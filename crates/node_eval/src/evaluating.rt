@@ -1,5 +1,5 @@
 // The result of a compiled node, visit by visit.
-ghost use Rattle.std.specs.Prelude.{◌≡◌, ℕ, ◌+◌, ◌<◌, ◌≤◌, ◌^◌, [], ◌∷◌, ◌++◌, sum_by, if◌then◌else◌, IfOk, IsErr, OnOk, Option, ◌⊎◌};
+ghost use Rattle.std.specs.Prelude.{◌≡◌, ℕ, ◌+◌, ◌<◌, ◌≤◌, ◌^◌, [], ◌∷◌, ◌++◌, length, map, sum_by, if◌then◌else◌, IfOk, IsErr, OnOk, Option, ◌⊎◌};
 ghost use Rattle.evaluation.specs.Operations.{GivesText};
 ghost use Rattle.evaluation.specs.Over.{many_of, one_of, over, over_all, over_cases, pick_of, two_of, weight, weight_of_all, weight_of_cases};
 ghost use Rattle.fact_values.specs.Values.{HoldsMemory};
@@ -9,6 +9,7 @@ ghost use Rattle.operations.specs.CaseSteps.{find_from};
 ghost use Rattle.operations.specs.ManyFolds.{saw};
 ghost use Rattle.three_state.specs.Results.{filter_of, find_of, members_of, switch_of};
 ghost use Rattle.node_eval.specs.Evaluating.{TakesAt, condition_at, visits_at, work_at};
+ghost use Rattle.node_eval.specs.Globals.{SomeHoldsMemory, global_result};
 ghost use Rattle.node_eval.specs.Memory.{PickTakes, SomeOf, TakesInAll, TakesInCases, TakesMemory};
 ghost use Rattle.node_eval.specs.NodeTypes.{IsTyped, SomeGivesTextOrList};
 ghost use Rattle.node_eval.specs.Dependencies.{collection, node_env};
@@ -76,7 +77,7 @@ fn visit<C: Cells, L: Ledger>(
         Node::Read(op, path) => read(alloc, cells, at, *op, *path),
         Node::Switch(cases) => eval_cases(alloc, cells, at, cases.as_slice(), steps),
         Node::Many(op, operands) => eval_all(alloc, cells, at, *op, operands.as_slice(), steps),
-        Node::Globals(op, facts) => eval_globals(alloc, cells, *op, facts.as_slice(), steps),
+        Node::Globals(op, facts) => eval_flat(alloc, cells, *op, facts.as_slice(), steps),
         Node::One(op, operand) => eval_one(alloc, cells, at, op, operand, steps),
         Node::Two(op, left, right) => {
             let first = visit(alloc, cells, at, left, steps)?;
@@ -91,6 +92,25 @@ fn constant(alloc: Global, value: &Value) -> Result<Res, NoMemory>
     ensures memory { IsErr result → HoldsMemory value.now }
 {
     Ok(Res::Complete(value.copy(alloc)?))
+}
+
+// A node whose operands are all facts that stand once. It stands apart from the recursion, so that its loops are small
+// and stay in registers.
+#[inline(never)]
+fn eval_flat<C: Cells, L: Ledger>(
+    alloc: Global,
+    cells: &C,
+    op: ManyOp,
+    facts: &[u32],
+    steps: &mut Steps<L>,
+) -> Result<Res, NoMemory>
+    ensures value { IfOk result (λ r. r ≡ many_of op (map (global_result (C.results cells.now)) facts.now)) }
+    ensures steps { OnOk result (steps.new ≡ steps.old + length facts.now) }
+    ensures most { steps.new ≤ steps.old + length facts.now }
+    ensures least { steps.old ≤ steps.new }
+    ensures memory { IsErr result → SomeHoldsMemory (C.results cells.now) facts.now }
+{
+    eval_globals(alloc, cells, op, facts, steps)
 }
 
 // A node with one operand.

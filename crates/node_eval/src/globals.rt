@@ -229,6 +229,7 @@ fn add_globals<C: Cells, L: Ledger>(
 }
 
 /// The result of the operation over these facts, each of which is a step. No operand is asked what kind of node it is.
+#[inline(always)]
 pub fn eval_globals<C: Cells, L: Ledger>(
     alloc: Global,
     cells: &C,

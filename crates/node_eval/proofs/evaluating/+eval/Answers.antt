@@ -53,10 +53,10 @@ pub visit-returns-in-Globals-clause-value : goal.visit-returns-in-Globals-clause
 visit-returns-in-Globals-clause-value g t c =
     let results = g.C.Cells.results c.args.cells.now in
     let shape : view c.args.node.now ≡ many c.in-Globals.op (globals_view c.in-Globals.facts.items) = ap view c.in-Globals.is ∙ view-Globals _ _ in
-    ok_same c.eval_globals.result _ _
+    ok_same c.eval_flat.result _ _
     (ap (many_of c.in-Globals.op) (ap (map (global_result results)) c.as_slice-in-Globals.ensures.value ∙ sym (globals_give results c.args.at c.in-Globals.facts.items))
     ∙ sym (ap (over (node_env results) c.args.at) shape))
-    c.eval_globals.ensures.value
+    c.eval_flat.ensures.value
 
 pub visit-returns-in-Globals-clause-visited : goal.visit-returns-in-Globals-clause-visited
 visit-returns-in-Globals-clause-visited g t c =
@@ -64,9 +64,9 @@ visit-returns-in-Globals-clause-visited g t c =
     let shape : view c.args.node.now ≡ many c.in-Globals.op (globals_view c.in-Globals.facts.items) = ap view c.in-Globals.is ∙ view-Globals _ _ in
     let visit : visits (node_env results) c.args.at (view c.args.node.now) ≡ suc (length c.in-Globals.facts.items) =
     ap (visits (node_env results) c.args.at) shape ∙ ap suc (globals_visit results c.args.at c.in-Globals.facts.items) in
-    on_ok_weaker c.eval_globals.result
-    (λ (k : c.eval_globals.new.steps ≡ c.tick.new.self + length c.as_slice-in-Globals.result.now). omega (arith, k, c.tick.ensures, visit, ap length c.as_slice-in-Globals.ensures.value))
-    c.eval_globals.ensures.steps
+    on_ok_weaker c.eval_flat.result
+    (λ (k : c.eval_flat.new.steps ≡ c.tick.new.self + length c.as_slice-in-Globals.result.now). omega (arith, k, c.tick.ensures, visit, ap length c.as_slice-in-Globals.ensures.value))
+    c.eval_flat.ensures.steps
 
 pub visit-returns-in-Globals-clause-most : goal.visit-returns-in-Globals-clause-most
 visit-returns-in-Globals-clause-most g t c =
@@ -74,14 +74,14 @@ visit-returns-in-Globals-clause-most g t c =
     let shape : view c.args.node.now ≡ many c.in-Globals.op (globals_view c.in-Globals.facts.items) = ap view c.in-Globals.is ∙ view-Globals _ _ in
     let weigh : weight (node_env results) c.args.at (view c.args.node.now) ≡ suc (length c.in-Globals.facts.items) =
     ap (weight (node_env results) c.args.at) shape ∙ ap suc (globals_weigh results c.args.at c.in-Globals.facts.items) in
-    omega (arith, weigh, c.tick.ensures, c.eval_globals.ensures.most, ap length c.as_slice-in-Globals.ensures.value)
+    omega (arith, weigh, c.tick.ensures, c.eval_flat.ensures.most, ap length c.as_slice-in-Globals.ensures.value)
 
 pub visit-returns-in-Globals-clause-memory : goal.visit-returns-in-Globals-clause-memory
 visit-returns-in-Globals-clause-memory g t c =
     let results = g.C.Cells.results c.args.cells.now in
     let shape : view c.args.node.now ≡ many c.in-Globals.op (globals_view c.in-Globals.facts.items) = ap view c.in-Globals.is ∙ view-Globals _ _ in
     λ h. subst (TakesMemory (node_env results) c.args.at) (sym shape)
-    (globals_take results c.args.at c.in-Globals.facts.items (subst (SomeHoldsMemory results) c.as_slice-in-Globals.ensures.value (c.eval_globals.ensures.memory h)))
+    (globals_take results c.args.at c.in-Globals.facts.items (subst (SomeHoldsMemory results) c.as_slice-in-Globals.ensures.value (c.eval_flat.ensures.memory h)))
 
 -- ---- a list of operands
 
