@@ -63,7 +63,7 @@ impl Log {
         self.entries.reserve(1)?;
         store.reserve(1)?;
         let Displaced { cell, moved } = store.put(slot, res, stamp);
-        let _ = self.entries.push(Replaced { slot, cell });
+        self.entries.push_reserved(Replaced { slot, cell });
         Ok(moved)
     }
 

@@ -5,5 +5,5 @@ use Rattle.recalc.proofs.log.Log.put.Goals as goal
 
 pub returns-clause-can : goal.returns-clause-can
 returns-clause-can c =
-    put_can_be_put_back (entries c.args.self.now) (entries (record { entries = c.push.new.self })) c.args.store.now.cells c.put-cell.new.self.cells c.args.slot
+    put_can_be_put_back (entries c.args.self.now) (entries (record { entries = c.push_reserved.new.self })) c.args.store.now.cells c.put-cell.new.self.cells c.args.slot
     (record { res = c.args.res; stamp = c.args.stamp }) (search rules) (search rules) c.requires
