@@ -20,7 +20,7 @@ use Rattle.dict_source.specs.Facts.{Fact, fact_view}
 use Rattle.dict_source.specs.declared.fact_source.FactSource.{FactSource}
 use Rattle.dict_source.specs.Forms.{IsReadFrom, IsWellFormed}
 use Rattle.dict_source.specs.Finding.{fact_at, HasPath, IsFirst, IsNumber, Finds, same_path, is_path, find_path}
-use Rattle.dict_source.specs.PathIndex.{is_spelled}
+use Rattle.dict_source.specs.PathIndex.{is_spelled, key_of, path_key}
 
 -- ---- one path and another
 
@@ -47,17 +47,32 @@ is_path-some p o h = ap (is_path p) h ∙ same_path-same p
 
 -- ---- a path and its text
 
-text_path : (p : FactPath) → IsFactPath p → (text : List ℕ) (o : Option FactPath) → IsReadFrom SpellsFactPath text o → (is_some o && bytes_eq (fact_path_text p) text) ≡ is_path p o
+-- a path is written as a slash and its key
+path_written : (p : FactPath) → fact_path_text p ≡ 47 ∷ path_key p
+path_written (Global n) = refl
+path_written (Member c n) = refl
+
+-- so the key is what stands behind the slash
+path_behind : (p : FactPath) → key_of (fact_path_text p) ≡ path_key p
+path_behind (Global n) = refl
+path_behind (Member c n) = refl
+
+-- the same of the text of a path
+pub key_of-spelled : (text : List ℕ) (p : FactPath) → SpellsFactPath text p → key_of text ≡ path_key p
+key_of-spelled text p h = ap key_of h.1 ∙ path_behind p
+
+text_path : (p : FactPath) → IsFactPath p → (text : List ℕ) (o : Option FactPath) → IsReadFrom SpellsFactPath text o → (is_some o && bytes_eq (path_key p) (key_of text)) ≡ is_path p o
 text_path p good text None h = refl
 text_path p good text (Some q) h =
-    same_test (bytes_eq (fact_path_text p) text) (same_path p q)
+    same_test (bytes_eq (path_key p) (key_of text)) (same_path p q)
     (λ e.
-    let same : fact_path_text p ≡ text = (bytes_eq-Decides (fact_path_text p) text).0 e in
+    let keys : path_key p ≡ key_of text = (bytes_eq-Decides (path_key p) (key_of text)).0 e in
+    let same : fact_path_text p ≡ text = path_written p ∙ ap (λ (k : List ℕ). 47 ∷ k) (keys ∙ key_of-spelled text q h) ∙ sym (path_written q) ∙ sym h.1 in
     let one : p ≡ q = one_path_from SpellsFactPath fact_path_of fact_path_reading text p q (good, sym same) h in
     ap (same_path p) (sym one) ∙ same_path-same p)
     (λ e.
     let one : p ≡ q = same_path-one p q e in
-    (bytes_eq-Decides (fact_path_text p) text).1 (ap fact_path_text one ∙ sym h.1))
+    (bytes_eq-Decides (path_key p) (key_of text)).1 (ap path_key one ∙ sym (key_of-spelled text q h)))
 
 number_from-same : (tables : List LookupTable) (test other : Fact → Bool) (n : ℕ) (facts : List Fact) → ((f : Fact) → IsWellFormed tables f → test f ≡ other f) → All (IsWellFormed tables) facts → number_from test n facts ≡ number_from other n facts
 number_from-same tables test other n [] same good = refl
@@ -67,9 +82,9 @@ number_from-same tables test other n (f ∷ facts) same good =
     ap (λ (b : Bool). cond b (Some n) (number_from test (suc n) facts)) here ∙ ap (λ (o : Option ℕ). cond (other f) (Some n) o) rest
 
 -- among well-formed facts the first whose path the text spells is the first with the path
-pub spelled-find_path : (tables : List LookupTable) (facts : List Fact) (p : FactPath) → All (IsWellFormed tables) facts → IsFactPath p → number_from (is_spelled (fact_path_text p)) 1 facts ≡ find_path facts p
+pub spelled-find_path : (tables : List LookupTable) (facts : List Fact) (p : FactPath) → All (IsWellFormed tables) facts → IsFactPath p → number_from (is_spelled (path_key p)) 1 facts ≡ find_path facts p
 spelled-find_path tables facts p good path =
-    number_from-same tables (is_spelled (fact_path_text p)) (λ f. is_path p f.path) 1 facts (λ f well. text_path p path f.path_text f.path well.path) good
+    number_from-same tables (is_spelled (path_key p)) (λ f. is_path p f.path) 1 facts (λ f well. text_path p path f.path_text f.path well.path) good
 
 -- ---- the number that is found is that of the first
 
@@ -89,7 +104,7 @@ number_from-none {X = X} test n (y ∷ xs) h j x at = by (test y) refl h j at (�
     by false e h zero at rest = let one : y ≡ x = cc in ap test (sym one) ∙ e
     by false e h (suc j) at rest = rest h j x at
 
-number_from-some : {X : Type 0} (test : X → Bool) (n : ℕ) (xs : List X) (k : ℕ) → number_from test n xs ≡ Some k → (i : ℕ) × (k ≡ n + i) × FoundAt test xs i
+pub number_from-some : {X : Type 0} (test : X → Bool) (n : ℕ) (xs : List X) (k : ℕ) → number_from test n xs ≡ Some k → (i : ℕ) × (k ≡ n + i) × FoundAt test xs i
 number_from-some {X = X} test n [] k h = absurd cc
 number_from-some {X = X} test n (y ∷ xs) k h = by (test y) refl h (λ g. number_from-some test (suc n) xs k g)
   where

@@ -1,4 +1,5 @@
 pub mod FindingLaws
+pub mod GlobalTexts
 pub mod Guards
 pub mod MentionLaws
 pub mod NamedTables

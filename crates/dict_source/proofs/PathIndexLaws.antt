@@ -1,5 +1,5 @@
 -- What is kept under a text.
-use Rattle.std.proofs.Common.{◌≡◌, ℕ, suc, ◌+◌, Bool, true, false, cond, ◌&&◌, List, [], ◌∷◌, ◌++◌, length, drop, bytes_eq, Option, Some, None, is_some, Vec, Global, refl, sym, ap, ◌∙◌, arith, add-zero}
+use Rattle.std.proofs.Common.{◌≡◌, ℕ, suc, ◌+◌, Bool, true, false, cond, ◌&&◌, List, [], ◌∷◌, ◌++◌, length, drop, bytes_eq, Option, Some, None, is_some, String, Global, string_bytes, string_eq, refl, sym, ap, ◌∙◌, arith, add-zero}
 use Rattle.std.specs.Map.{lookup}
 use Rattle.std.specs.Option.{option_or}
 use Rattle.std.proofs.lemmas.List.{map-append}
@@ -7,42 +7,38 @@ use Rattle.std.proofs.lemmas.Slice.Eq.{bytes_eq-Decides}
 use Rattle.indexmap.specs.IndexMap.{insert_entry}
 use Rattle.dict_source.specs.Dictionary.{number_from}
 use Rattle.dict_source.specs.Facts.{Fact}
-use Rattle.dict_source.specs.PathIndex.{Entry, entries_of, place_of, noted, fact_noted, is_spelled, IsIndex}
-
--- whether two keys are one
-abbrev pub same_items : Vec ℕ Global → Vec ℕ Global → Bool
-same_items a b = bytes_eq a.items b.items
+use Rattle.dict_source.specs.PathIndex.{Entry, entries_of, place_of, noted, fact_noted, is_spelled, key_of, IsIndex}
 
 -- the map's look-up is that of the entries
-pub lookup-place_of : (text : List ℕ) (es : List (Vec ℕ Global × ℕ)) → lookup (λ key. bytes_eq text key.items) es ≡ place_of text (entries_of es)
+pub lookup-place_of : (text : List ℕ) (es : List (String Global × ℕ)) → lookup (λ key. bytes_eq text (string_bytes key)) es ≡ place_of text (entries_of es)
 lookup-place_of text [] = refl
-lookup-place_of text (e ∷ es) = ap (λ o. cond (bytes_eq text e.0.items) (Some e.1) o) (lookup-place_of text es)
+lookup-place_of text (e ∷ es) = ap (λ o. cond (bytes_eq text (string_bytes e.0)) (Some e.1) o) (lookup-place_of text es)
 
 either_none : {X : Type 0} (b : Bool) (x : X) (o : Option X) → is_some (cond b (Some x) o) ≡ false → (b ≡ false) × (is_some o ≡ false)
 either_none true x o h = absurd cc
 either_none false x o h = (refl, h)
 
 -- a number under a new text goes last
-insert_entry-last : (key : Vec ℕ Global) (n : ℕ) (es : List (Vec ℕ Global × ℕ)) → is_some (place_of key.items (entries_of es)) ≡ false → insert_entry same_items es key n ≡ es ++ (key, n) ∷ []
+insert_entry-last : (key : String Global) (n : ℕ) (es : List (String Global × ℕ)) → is_some (place_of (string_bytes key) (entries_of es)) ≡ false → insert_entry string_eq es key n ≡ es ++ (key, n) ∷ []
 insert_entry-last key n [] h = refl
 insert_entry-last key n (e ∷ es) h =
-    let apart = either_none (bytes_eq key.items e.0.items) e.1 (place_of key.items (entries_of es)) h in
-    ap (λ b. cond b ((e.0, n) ∷ es) (e ∷ insert_entry same_items es key n)) apart.0 ∙ ap (λ l. e ∷ l) (insert_entry-last key n es apart.1)
+    let apart = either_none (bytes_eq (string_bytes key) (string_bytes e.0)) e.1 (place_of (string_bytes key) (entries_of es)) h in
+    ap (λ b. cond b ((e.0, n) ∷ es) (e ∷ insert_entry string_eq es key n)) apart.0 ∙ ap (λ l. e ∷ l) (insert_entry-last key n es apart.1)
 
 -- where a number is kept, the entries stay
-pub noted-there : (text : List ℕ) (n : ℕ) (es : List (Vec ℕ Global × ℕ)) (entries : List Entry) (b : Bool) → entries_of es ≡ entries → b ≡ is_some (lookup (λ key. bytes_eq text key.items) es) → b ≡ true → entries ≡ noted entries text n
+pub noted-there : (text : List ℕ) (n : ℕ) (es : List (String Global × ℕ)) (entries : List Entry) (b : Bool) → entries_of es ≡ entries → b ≡ is_some (lookup (λ key. bytes_eq text (string_bytes key)) es) → b ≡ true → entries ≡ noted entries text n
 noted-there text n es entries b v h t =
     let there : is_some (place_of text entries) ≡ true = ap (λ l. is_some (place_of text l)) (sym v) ∙ sym (ap is_some (lookup-place_of text es)) ∙ sym h ∙ t in
     sym (ap (λ c. cond c entries (entries ++ (text, n) ∷ [])) there)
 
 -- elsewhere the number goes last
-pub noted-new : (text : List ℕ) (n : ℕ) (key : Vec ℕ Global) (es later : List (Vec ℕ Global × ℕ)) (entries : List Entry) (b : Bool) → entries_of es ≡ entries → b ≡ is_some (lookup (λ key. bytes_eq text key.items) es) → b ≡ false → key.items ≡ text → later ≡ insert_entry same_items es key n → entries_of later ≡ noted entries text n
+pub noted-new : (text : List ℕ) (n : ℕ) (key : String Global) (es later : List (String Global × ℕ)) (entries : List Entry) (b : Bool) → entries_of es ≡ entries → b ≡ is_some (lookup (λ key. bytes_eq text (string_bytes key)) es) → b ≡ false → string_bytes key ≡ text → later ≡ insert_entry string_eq es key n → entries_of later ≡ noted entries text n
 noted-new text n key es later entries b v h t k i =
     let none : is_some (place_of text entries) ≡ false = ap (λ l. is_some (place_of text l)) (sym v) ∙ sym (ap is_some (lookup-place_of text es)) ∙ sym h ∙ t in
-    let own : is_some (place_of key.items (entries_of es)) ≡ false = ap (λ l. is_some (place_of l (entries_of es))) k ∙ ap (λ l. is_some (place_of text l)) v ∙ none in
+    let own : is_some (place_of (string_bytes key) (entries_of es)) ≡ false = ap (λ l. is_some (place_of l (entries_of es))) k ∙ ap (λ l. is_some (place_of text l)) v ∙ none in
     ap entries_of (i ∙ insert_entry-last key n es own)
     ∙ map-append _ es ((key, n) ∷ [])
-    ∙ ap (λ l. l ++ (key.items, n) ∷ []) v
+    ∙ ap (λ l. l ++ (string_bytes key, n) ∷ []) v
     ∙ ap (λ t. entries ++ (t, n) ∷ []) k
     ∙ sym (ap (λ c. cond c entries (entries ++ (text, n) ∷ [])) none)
 
@@ -84,8 +80,8 @@ place_of-noted t text n entries = by (is_some (place_of text entries)) refl
 pub place_of-fact_noted : (t : List ℕ) (f : Fact) (n : ℕ) (entries : List Entry) → place_of t (fact_noted entries f n) ≡ option_or (place_of t entries) (where_true (is_spelled t f) n)
 place_of-fact_noted t f n entries = by (is_some f.path)
   where
-    by : (b : Bool) → place_of t (cond b (noted entries f.path_text n) entries) ≡ option_or (place_of t entries) (where_true (b && bytes_eq t f.path_text) n)
-    by true = place_of-noted t f.path_text n entries
+    by : (b : Bool) → place_of t (cond b (noted entries (key_of f.path_text) n) entries) ≡ option_or (place_of t entries) (where_true (b && bytes_eq t (key_of f.path_text)) n)
+    by true = place_of-noted t (key_of f.path_text) n entries
     by false = sym (option_or-none (place_of t entries))
 
 -- ---- the index

@@ -10,10 +10,10 @@ use Rattle.dict_source.specs.Dictionary.{AreTables, Written, dictionary_view, nu
 use Rattle.dict_source.specs.Tables.{LookupTable}
 use Rattle.dict_source.specs.Facts.{Fact, fact_view}
 use Rattle.dict_source.specs.Forms.{IsWellFormed}
-use Rattle.fact_paths.specs.Paths.{IsFactPath, fact_path_text}
+use Rattle.fact_paths.specs.Paths.{IsFactPath}
 use Rattle.fact_paths.specs.declared.fact_path.FactPath.{FactPath}
 use Rattle.dict_source.specs.Finding.{find_path}
-use Rattle.dict_source.specs.PathIndex.{Entry, IsIndex, fact_noted, place_of}
+use Rattle.dict_source.specs.PathIndex.{Entry, IsIndex, fact_noted, path_key, place_of}
 use Rattle.dict_source.specs.Sources.{IsSource}
 use Rattle.dict_source.specs.declared.fact_source.FactSource.{FactSource}
 use Rattle.dict_source.proofs.FindingLaws.{spelled-find_path}
@@ -69,12 +69,12 @@ IsSource-last w now f facts entries later n opened h well limits e noted number 
       index = subst (λ (fs : List Fact). IsIndex fs later) (sym views) (subst (λ (es : List Entry). IsIndex (map fact_view w.facts ++ fact_view f ∷ []) es) (sym (noted ∙ ap (fact_noted entries (fact_view f)) counted)) index);
     }
 
--- a look-up by the text of a path finds the first fact with the path
-pub found_by_text : (w now : Written) (entries : List Entry) (p : FactPath) (line : List ℕ) (r : Option ℕ) → w ≡ now → IsSource w entries → IsFactPath p → line ≡ fact_path_text p → r ≡ place_of line entries → r ≡ find_path (dictionary_view now).facts p
+-- a look-up by the key of a path finds the first fact with the path
+pub found_by_text : (w now : Written) (entries : List Entry) (p : FactPath) (line : List ℕ) (r : Option ℕ) → w ≡ now → IsSource w entries → IsFactPath p → line ≡ path_key p → r ≡ place_of line entries → r ≡ find_path (dictionary_view now).facts p
 found_by_text w now entries p line r opened h path text found =
     found
     ∙ ap (λ (t : List ℕ). place_of t entries) text
-    ∙ h.index (fact_path_text p)
+    ∙ h.index (path_key p)
     ∙ spelled-find_path w.tables (dictionary_view w).facts p h.valid.well_formed path
     ∙ ap (λ (v : Written). find_path (dictionary_view v).facts p) opened
 

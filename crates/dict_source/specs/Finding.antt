@@ -1,5 +1,6 @@
 -- Which fact a path names.
-use Rattle.std.specs.Prelude.{◌≡◌, ℕ, zero, suc, ◌<◌, ◌≤◌, ◌&&◌, Bool, false, List, length, slice_get, bytes_eq, Option, Some, None}
+use Rattle.std.specs.Prelude.{◌≡◌, ℕ, zero, suc, ◌<◌, ◌≤◌, ◌&&◌, Bool, true, false, List, length, slice_get, bytes_eq, Option, Some, None, option_and_then}
+use Rattle.fact_paths.specs.Paths.{SpellsFactPath}
 use Rattle.fact_paths.specs.declared.fact_path.FactPath.{FactPath}
 use Rattle.fact_paths.specs.declared.fact_path.FactPath.TheVariants.{Global, Member}
 use Rattle.dict_source.specs.Facts.{Fact}
@@ -44,3 +45,25 @@ is_path path (Some other) = same_path path other
 
 abbrev pub find_path : List Fact → FactPath → Option ℕ
 find_path facts path = number_from (λ f. is_path path f.path) 1 facts
+
+-- ---- global facts by the texts of their paths
+
+-- the text spells the path `/N`, and the first fact with that path has this number
+pub record IsGlobalSpelled (facts : List Fact) (text : List ℕ) (n : ℕ) : Type 0 where
+  pub name : List ℕ
+  pub spells : SpellsFactPath text (Global name)
+  pub found : find_path facts (Global name) ≡ Some n
+
+-- no fact has a path `/N` that the text spells
+abbrev pub NoGlobalSpelled : List Fact → List ℕ → Type 0
+NoGlobalSpelled facts text = (name : List ℕ) → SpellsFactPath text (Global name) → find_path facts (Global name) ≡ None
+
+-- it is a path `/N`
+abbrev pub is_global : Option FactPath → Bool
+is_global None = false
+is_global (Some (Global n)) = true
+is_global (Some (Member c n)) = false
+
+-- so is the path of the fact with this number
+abbrev pub is_global_at : List Fact → ℕ → Bool
+is_global_at facts n = is_global (option_and_then (λ f. f.path) (fact_at facts n))

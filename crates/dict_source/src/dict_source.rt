@@ -1,16 +1,16 @@
 // Dictionaries as they are written: enums and numbered facts, found by path.
-ghost use Rattle.std.specs.Prelude.{◌≡◌, ◌+◌, ◌<◌, ◌≤◌, ◌^◌, [], ◌∷◌, ◌++◌, length, map, slice_get, option_copied, option_map, vec_len, IfErr, IfOk, IfSome, OnErr, OnOk};
+ghost use Rattle.std.specs.Prelude.{◌≡◌, ◌+◌, ◌<◌, ◌≤◌, ◌^◌, [], ◌∷◌, ◌++◌, length, map, slice_get, option_copied, option_map, vec_len, IfErr, IfNone, IfOk, IfSome, OnErr, OnOk};
 ghost use Rattle.std.specs.List.{All};
 ghost use Rattle.fact_paths.specs.declared.fact_path.FactPath.TheVariants as paths;
 ghost use Rattle.value_text.specs.Enums.{Listed};
 ghost use Rattle.dict_source.specs.Dictionary.{IsValid, IsWithinLimits, dictionary_view, with_fact};
 ghost use Rattle.dict_source.specs.Facts.{fact_view};
-ghost use Rattle.dict_source.specs.Finding.{Finds, IsNumber, fact_at, find_path};
+ghost use Rattle.dict_source.specs.Finding.{Finds, IsGlobalSpelled, IsNumber, NoGlobalSpelled, fact_at, find_path, is_global, is_global_at};
 ghost use Rattle.dict_source.specs.Forms.{IsWellFormed};
 ghost use Rattle.dict_source.specs.PathIndex.{IsIndex, fact_noted};
 
 use crate::fact_source::FactSource;
-use crate::finding::{global_text, member_text};
+use crate::finding::{behind_slash, key_in, member_key};
 use crate::lookup_table::LookupTable;
 use crate::path_index::PathIndex;
 use fact_paths::{FactPath, Name};
@@ -55,7 +55,7 @@ fn note_fact(index: &mut PathIndex, fact: &FactSource, number: u32) -> Result<()
 {
     match &fact.path {
         None => Ok(()),
-        Some(_) => index.note(fact.path_text.as_bytes(), number),
+        Some(_) => index.note(key_in(fact.path_text.as_str()), number),
     }
 }
 
@@ -75,6 +75,17 @@ fn item_at(facts: &[FactSource], index: usize) -> Option<&FactSource>
     ensures { option_copied result ≡ slice_get facts.now index }
 {
     facts.get(index)
+}
+
+// Whether it is a path `/N`.
+fn is_global_path(path: Option<&FactPath>) -> bool
+    ensures { result ≡ is_global (option_copied path.entry) }
+{
+    match path {
+        None => false,
+        Some(FactPath::Global(_)) => true,
+        Some(FactPath::Member(_, _)) => false,
+    }
 }
 
 impl DictSource {
@@ -170,14 +181,36 @@ impl DictSource {
     pub fn find_global(&self, name: &Name) -> Option<u32>
         ensures { result ≡ find_path (dictionary_view self.now).facts (paths.Global name.now) }
     {
-        self.index.get(global_text(name).as_slice())
+        self.index.get(name.as_str())
     }
 
     /// The first fact `/N/*/M`, by its number.
     pub fn find_member(&self, collection: &Name, member: &Name) -> Option<u32>
         ensures { result ≡ find_path (dictionary_view self.now).facts (paths.Member collection.now member.now) }
     {
-        self.index.get(member_text(collection, member).as_slice())
+        self.index.get(member_key(collection, member).as_str())
+    }
+
+    // Whether the fact with this number stands once.
+    fn is_global(&self, number: u32) -> bool
+        ensures { result ≡ is_global_at (dictionary_view self.now).facts number }
+    {
+        match self.fact(number) {
+            None => false,
+            Some(fact) => is_global_path(fact.path.as_ref()),
+        }
+    }
+
+    /// The first fact with the path `/N` that the text spells, by its number. It takes no memory.
+    pub fn find_global_text(&self, text: &str) -> Option<u32>
+        ensures found { IfSome result (IsGlobalSpelled (dictionary_view self.now).facts text.now) }
+        ensures none { IfNone result (NoGlobalSpelled (dictionary_view self.now).facts text.now) }
+    {
+        let number = self.index.get(behind_slash(text)?)?;
+        if !self.is_global(number) {
+            return None;
+        }
+        Some(number)
     }
 
     /// The first fact with the path, by its number. It takes no memory.

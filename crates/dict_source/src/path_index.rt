@@ -6,10 +6,10 @@ use indexmap::IndexMap;
 use std::alloc::{AllocError, Global};
 use std::marker::Model;
 
-/// The number of a fact by the text of its path.
+/// The number of a fact by the text of its path without the first slash.
 #[derive(Drop)]
 pub struct PathIndex {
-    numbers: IndexMap<Vec<u8>, u32>,
+    numbers: IndexMap<String, u32>,
 }
 
 impl Model for PathIndex {
@@ -32,21 +32,21 @@ impl PathIndex {
     }
 
     /// The number that is kept under the text.
-    pub fn get(&self, text: &[u8]) -> Option<u32>
+    pub fn get(&self, text: &str) -> Option<u32>
         ensures { result ≡ place_of text.now self.now }
     {
         self.numbers.get(text).copied()
     }
 
     /// Keeps the number under the text, unless one is kept there.
-    pub fn note(&mut self, text: &[u8], number: u32) -> Result<(), AllocError>
+    pub fn note(&mut self, text: &str, number: u32) -> Result<(), AllocError>
         ensures noted { OnOk result (self.new ≡ noted self.old text.now number) }
         ensures kept { OnErr result (self.new ≡ self.old) }
     {
         if self.numbers.contains_key(text) {
             return Ok(());
         }
-        let key = Vec::from_slice(*self.numbers.allocator(), text)?;
+        let key = String::from_str(*self.numbers.allocator(), text)?;
         self.numbers.insert(key, number)?;
         Ok(())
     }

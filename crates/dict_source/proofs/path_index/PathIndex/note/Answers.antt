@@ -7,4 +7,4 @@ returns-then-contains_key-clause-noted c =
 
 pub returns-clause-noted : goal.returns-clause-noted
 returns-clause-noted c =
-    noted-new c.args.text.now c.args.number c.in_ok-key.key c.self.inside.numbers.entries c.insert.new.self.entries c.args.self.now c.contains_key.result c.self.view_is c.contains_key.ensures c.if-contains_key.false c.in_ok-key.ensures.items c.in_ok-insert.ensures.entries
+    noted-new c.args.text.now c.args.number c.in_ok-key.key c.self.inside.numbers.entries c.insert.new.self.entries c.args.self.now c.contains_key.result c.self.view_is c.contains_key.ensures c.if-contains_key.false c.in_ok-key.ensures.ok c.in_ok-insert.ensures.entries
