@@ -191,6 +191,9 @@ fn path_lacks_list(
 ) -> bool
     ensures { result ≡ path_without_list (dictionary_view source.now) fact use_op condition (Some path.now) }
 {
+    if !reads_collection(use_op) && !goes_through_item(path) {
+        return false;
+    }
     let targets = source.targets(fact, base_under(condition), path);
     is_misread(source, use_op, path, targets.first)
 }
