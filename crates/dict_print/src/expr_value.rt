@@ -2,8 +2,8 @@
 ghost use Rattle.std.specs.Prelude.{◌≡◌, codes, IfOk};
 ghost use Rattle.serde_json.specs.Data.{item, no_items, string};
 ghost use Rattle.serde_json.specs.View.{view as json};
-ghost use Rattle.dict_source.specs.View.{view, case_view, cases_view, literal_of, trees_view};
-ghost use Rattle.fact_json.specs.Json.{json_of, json_of_cases, json_of_trees, literal_json, node_json, one_json};
+ghost use Rattle.dict_source.specs.View.{view, case_view, cases_view, literal_of, trees_view, use_view};
+ghost use Rattle.fact_json.specs.Json.{json_of, json_of_cases, json_of_trees, literal_json, node_json, one_json, text_json};
 ghost use Rattle.dict_print.specs.DictionaryJson.{case_json};
 
 use crate::node_value::{
@@ -11,7 +11,7 @@ use crate::node_value::{
     texts_node,
 };
 use crate::word::{word_of_many, word_of_one, word_of_pick, word_of_read, word_of_two};
-use dict_source::{Case, Constant, Expr, OneOp};
+use dict_source::{Case, Constant, Expr, OneOp, PathUse};
 use fact_values::NoMemory;
 use serde_json::Value;
 use std::alloc::Global;
@@ -45,6 +45,28 @@ fn node_of_op(alloc: Global, op: &OneOp, operand: Value) -> Result<Value, NoMemo
     }
 }
 
+// The node that reads a path.
+fn use_node(alloc: Global, name: &str, used: &PathUse) -> Result<Value, NoMemory>
+    ensures { IfOk result (λ v. json v ≡ text_json name.now (use_view used.now).text) }
+{
+    let text = used.text(alloc)?;
+    text_node(alloc, name, text.as_str())
+}
+
+// The node that picks of the members that a path lists.
+fn picked_node(
+    alloc: Global,
+    name: &str,
+    used: &PathUse,
+    condition: Value,
+) -> Result<Value, NoMemory>
+    ensures { IfOk result (λ v. json v ≡ node_json name.now
+        (item (string (use_view used.now).text) (item (json condition) no_items))) }
+{
+    let text = used.text(alloc)?;
+    node_of_pick(alloc, name, text.as_str(), condition)
+}
+
 /// The value that spells the expression.
 #[tactic(auto, using(dict_source::proofs::Views::views))]
 #[cycle(expr)]
@@ -53,7 +75,7 @@ pub fn expr_value(alloc: Global, expr: &Expr) -> Result<Value, NoMemory>
 {
     match expr {
         Expr::Const(constant) => constant_value(alloc, constant),
-        Expr::Read(op, path) => text_node(alloc, word_of_read(*op), path.text.as_str()),
+        Expr::Read(op, used) => use_node(alloc, word_of_read(*op), used),
         Expr::Switch(cases) => switch_value(alloc, cases),
         Expr::Many(op, operands) => many_value(alloc, word_of_many(*op), operands),
         Expr::One(op, operand) => one_value(alloc, op, operand),
@@ -62,9 +84,7 @@ pub fn expr_value(alloc: Global, expr: &Expr) -> Result<Value, NoMemory>
             let second = expr_value(alloc, second)?;
             node_of_two(alloc, word_of_two(*op), first, second)
         }
-        Expr::Pick(op, path, condition) => {
-            pick_value(alloc, word_of_pick(*op), path.text.as_str(), condition)
-        }
+        Expr::Pick(op, used, condition) => pick_value(alloc, word_of_pick(*op), used, condition),
     }
 }
 
@@ -77,12 +97,17 @@ fn one_value(alloc: Global, op: &OneOp, operand: &Expr) -> Result<Value, NoMemor
 }
 
 #[cycle(expr)]
-fn pick_value(alloc: Global, name: &str, text: &str, condition: &Expr) -> Result<Value, NoMemory>
+fn pick_value(
+    alloc: Global,
+    name: &str,
+    used: &PathUse,
+    condition: &Expr,
+) -> Result<Value, NoMemory>
     ensures { IfOk result (λ v. json v ≡ node_json name.now
-        (item (string text.now) (item (json_of (view condition.now)) no_items))) }
+        (item (string (use_view used.now).text) (item (json_of (view condition.now)) no_items))) }
 {
     let condition = expr_value(alloc, condition)?;
-    node_of_pick(alloc, name, text, condition)
+    picked_node(alloc, name, used, condition)
 }
 
 #[cycle(expr)]

@@ -3,10 +3,11 @@ ghost use Rattle.std.specs.Prelude.{◌≡◌, ◌<◌, ◌++◌, codes, length,
 ghost use Rattle.fact_values.specs.declared.fact_type.FactType.TheVariants as types;
 ghost use Rattle.value_text.specs.Values.{IsRead};
 ghost use Rattle.dict_source.specs.Facts.{stated_view};
+ghost use Rattle.dict_source.specs.View.{use_view};
 ghost use Rattle.fact_json.specs.FactJson.{IsNamed, scalar_text, stated_text};
 ghost use Rattle.dict_print.specs.DictionaryJson.{stated_type};
 
-use dict_source::TypeText;
+use dict_source::{PathUse, TypeText};
 use fact_values::{FactType, NoMemory};
 use value_text::EnumLists;
 
@@ -44,6 +45,15 @@ fn push_enclosed(out: &mut String, front: &str, text: &str) -> Result<(), NoMemo
     push(out, ")")
 }
 
+// The same of a path in a type.
+fn push_use(out: &mut String, front: &str, used: &PathUse) -> Result<(), NoMemory>
+    ensures { OnOk result (string_bytes out.new ≡ string_bytes out.old
+        ++ (front.now ++ ((use_view used.now).text ++ codes ")"))) }
+{
+    let text = used.text(*out.allocator())?;
+    push_enclosed(out, front, text.as_str())
+}
+
 /// Appends the text of a type.
 pub fn push_stated(out: &mut String, stated: &TypeText) -> Result<(), NoMemory>
     ensures text { OnOk result (string_bytes out.new ≡ string_bytes out.old ++ stated_text (stated_view stated.now)) }
@@ -53,8 +63,8 @@ pub fn push_stated(out: &mut String, stated: &TypeText) -> Result<(), NoMemory>
         TypeText::Scalar(scalar) => push(out, scalar_word(*scalar)),
         TypeText::EnumOf(name) => push_enclosed(out, "Enum(", name.as_str()),
         TypeText::WritableList => push(out, "Collection"),
-        TypeText::ListOf(path) => push_enclosed(out, "Collection(", path.text.as_str()),
-        TypeText::ItemOf(path) => push_enclosed(out, "Item(", path.text.as_str()),
+        TypeText::ListOf(used) => push_use(out, "Collection(", used),
+        TypeText::ItemOf(used) => push_use(out, "Item(", used),
     }
 }
 

@@ -25,9 +25,9 @@ fn is_other_form(path: &UsePath) -> bool
 fn is_bad_base(used: &PathUse) -> bool
     ensures { result ≡ bad_base (use_view used.now).path }
 {
-    match &used.path {
-        None => true,
-        Some(path) => is_other_form(path),
+    match used {
+        PathUse::Spelled(path) => is_other_form(path),
+        PathUse::Misspelled(_) => true,
     }
 }
 
@@ -47,7 +47,10 @@ fn is_bad_stated(stated: &TypeText) -> bool
 pub fn is_bad_use(used: &PathUse) -> bool
     ensures { result ≡ is_none (use_view used.now).path }
 {
-    used.path.is_none()
+    match used {
+        PathUse::Spelled(_) => false,
+        PathUse::Misspelled(_) => true,
+    }
 }
 
 /// Whether the fact has a path that the grammar doesn't read.

@@ -106,9 +106,9 @@ fn path_lacks_base(source: &DictSource, path: &UsePath) -> bool
 fn lacks_base(source: &DictSource, used: &PathUse) -> bool
     ensures { result ≡ without_base (dictionary_view source.now) (use_view used.now).path }
 {
-    match &used.path {
-        None => false,
-        Some(path) => path_lacks_base(source, path),
+    match used {
+        PathUse::Spelled(path) => path_lacks_base(source, path),
+        PathUse::Misspelled(_) => false,
     }
 }
 
@@ -208,9 +208,9 @@ pub fn use_lacks_list(
 ) -> bool
     ensures { result ≡ use_without_list (dictionary_view source.now) fact use_op condition (use_view used.now) }
 {
-    match &used.path {
-        None => false,
-        Some(path) => path_lacks_list(source, fact, use_op, condition, path),
+    match used {
+        PathUse::Spelled(path) => path_lacks_list(source, fact, use_op, condition, path),
+        PathUse::Misspelled(_) => false,
     }
 }
 

@@ -48,9 +48,9 @@ fn is_base(path: &UsePath) -> bool
 fn has_base(used: &PathUse) -> bool
     ensures { result ≡ is_some (option_and_then base_name (use_view used.now).path) }
 {
-    match &used.path {
-        None => false,
-        Some(path) => is_base(path),
+    match used {
+        PathUse::Spelled(path) => is_base(path),
+        PathUse::Misspelled(_) => false,
     }
 }
 
@@ -180,9 +180,9 @@ pub fn is_unknown_use(
 ) -> bool
     ensures { result ≡ unknown_use (dictionary_view source.now) fact use_op condition (use_view used.now) }
 {
-    match &used.path {
-        None => false,
-        Some(path) => is_unknown_path(source, fact, use_op, condition, path),
+    match used {
+        PathUse::Spelled(path) => is_unknown_path(source, fact, use_op, condition, path),
+        PathUse::Misspelled(_) => false,
     }
 }
 

@@ -118,9 +118,9 @@ fn condition_of_pick(
 ) -> Option<u32>
     ensures { result ≡ condition_under (dictionary_view source.now) fact condition (use_view used.now) }
 {
-    match &used.path {
-        None => Some(0),
-        Some(path) => Some(source.condition_base(fact, base_under(condition), path)),
+    match used {
+        PathUse::Spelled(path) => Some(source.condition_base(fact, base_under(condition), path)),
+        PathUse::Misspelled(_) => Some(0),
     }
 }
 

@@ -67,9 +67,9 @@ fn is_displaced(
 ) -> bool
     ensures { result ≡ displaced (dictionary_view source.now) fact use_op condition (use_view used.now).path }
 {
-    match &used.path {
-        None => false,
-        Some(path) => !is_in_place(source, fact, use_op, condition, path),
+    match used {
+        PathUse::Spelled(path) => !is_in_place(source, fact, use_op, condition, path),
+        PathUse::Misspelled(_) => false,
     }
 }
 

@@ -1,7 +1,7 @@
 -- What the grammar reads from a text, as a relation and as a function.
 use Rattle.std.proofs.Common.{◌≡◌, ℕ, List, Option, Some, None, Err, refl, sym, ap, ◌∙◌}
 use Rattle.std.proofs.lemmas.Option.{none-some}
-use Rattle.fact_paths.specs.Paths.{Reads, SpellsUsePath, SpellsFactPath}
+use Rattle.fact_paths.specs.Paths.{Reads, SpellsUsePath, SpellsFactPath, use_path_text}
 use Rattle.fact_paths.specs.declared.fault.PathFault.{PathFault}
 use Rattle.fact_paths.specs.declared.fault.PathFault.TheVariants.{BadPath, NoMemory}
 use Rattle.fact_paths.specs.declared.fact_path.FactPath.{FactPath}
@@ -45,14 +45,14 @@ fact_path_given text o h = read_given SpellsFactPath fact_path_of fact_path_read
 pub fact_path_from : (text : List ℕ) (o : Option FactPath) → fact_path_of text ≡ o → IsReadFrom SpellsFactPath text o
 fact_path_from text o e = read_from SpellsFactPath fact_path_of fact_path_reading text o e
 
--- a copy of the text, with what is read from it
-pub use_made : (text copy : List ℕ) (o : Option UsePath) → copy ≡ text → IsReadFrom SpellsUsePath text o → made copy o ≡ use_of text
-use_made text copy o same read = rw (same, use_path_given text o read) refl
+-- the text of a path that is read from it
+pub use_made : (text : List ℕ) (path : UsePath) → SpellsUsePath text path → made (use_path_text path) (Some path) ≡ use_of text
+use_made text path read = rw (sym read.1, use_path_given text (Some path) read) refl
 
--- the same where nothing is read
-pub no_use_made : (text copy : List ℕ) (e : PathFault) → e ≡ BadPath → copy ≡ text → Reads SpellsUsePath text (Err e) → made copy None ≡ use_of text
-no_use_made text copy BadPath is same read = use_made text copy None same read
-no_use_made text copy NoMemory is same read = absurd cc
+-- a text from which nothing is read
+pub no_use_made : (text : List ℕ) (e : PathFault) → e ≡ BadPath → Reads SpellsUsePath text (Err e) → made text None ≡ use_of text
+no_use_made text BadPath is read = ap (made text) (sym (use_path_given text None read))
+no_use_made text NoMemory is read = absurd cc
 
 -- a path of a fact, where one is read
 pub path_made : (text : List ℕ) (o : Option FactPath) → IsReadFrom SpellsFactPath text o → Some (fact_path_of text) ≡ Some o

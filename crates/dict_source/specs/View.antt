@@ -1,12 +1,14 @@
 -- The tree that an `Expr` stands for.
-use Rattle.std.specs.Prelude.{ℕ, Box, List, [], ◌∷◌, map, string_bytes}
+use Rattle.std.specs.Prelude.{ℕ, Box, List, [], ◌∷◌, map, Some, None, string_bytes}
 use Rattle.std.specs.declared.alloc.Global.{Global}
 use Rattle.fact_paths.specs.Parsing.{use_path_of}
+use Rattle.fact_paths.specs.Paths.{use_path_text}
 use Rattle.dict_source.specs.Tree.{Literal, literal_true, literal_false, literal_int, literal_dollar, literal_rational, literal_day, literal_text, literal_choice, Use, Source, Sources, SourceCase, SourceCases, literal, read, switch, many, one, two, pick, no_trees, tree, no_cases, a_case}
 use Rattle.dict_source.specs.Tables.{LookupTable}
 use Rattle.dict_source.specs.declared.constant.Constant.{Constant}
 use Rattle.dict_source.specs.declared.constant.Constant.TheVariants as constants
 use Rattle.dict_source.specs.declared.path_use.PathUse.{PathUse}
+use Rattle.dict_source.specs.declared.path_use.PathUse.TheVariants.{Spelled, Misspelled}
 use Rattle.dict_source.specs.declared.expr.Expr.{Expr, fold-Expr}
 use Rattle.dict_source.specs.declared.expr.Case.{Case}
 use Rattle.dict_source.specs.declared.expr.Expr.TheOpen.{Expr-F, Case-F}
@@ -22,7 +24,8 @@ literal_of (constants.Text s) = literal_text (string_bytes s)
 literal_of (constants.Choice s t) = literal_choice (string_bytes s) (string_bytes t)
 
 abbrev pub use_view : PathUse → Use
-use_view p = record { text = string_bytes p.text; path = p.path }
+use_view (Spelled path) = record { text = use_path_text path; path = Some path }
+use_view (Misspelled text) = record { text = string_bytes text; path = None }
 
 abbrev pub trees_of : List Source → Sources
 trees_of [] = no_trees

@@ -5,7 +5,7 @@ ghost use Rattle.dict_source.specs.Facts.{conditional_view, fact_view};
 ghost use Rattle.std.specs.List.{All};
 ghost use Rattle.dict_source.specs.Finding.{IsNumber, fact_at};
 ghost use Rattle.dict_source.specs.Mentions.{case_mentions, condition_base, conditional_mentions, fact_mentions, found_mentions, is_same, mention_of, mentions, option_mentions, tree_mentions, use_mentions};
-ghost use Rattle.dict_source.specs.View.{cases_view, trees_view, view};
+ghost use Rattle.dict_source.specs.View.{cases_view, trees_view, use_view, view};
 
 use crate::dict_source::DictSource;
 use crate::expr::{Case, Expr};
@@ -70,20 +70,20 @@ fn note_use(
     out: &mut Vec<Mention>,
 ) -> Result<(), AllocError>
     ensures { OnOk result (out.new.items ≡ out.old.items ++ use_mentions (dictionary_view source.now) fact base
-        used.now.path) }
+        (use_view used.now).path) }
 {
-    match &used.path {
-        None => Ok(()),
-        Some(path) => note_path(source, fact, base, path, out),
+    match used {
+        PathUse::Spelled(path) => note_path(source, fact, base, path, out),
+        PathUse::Misspelled(_) => Ok(()),
     }
 }
 
 fn base_under(source: &DictSource, fact: u32, base: u32, used: &PathUse) -> u32
-    ensures { result ≡ condition_base (dictionary_view source.now) fact base used.now.path }
+    ensures { result ≡ condition_base (dictionary_view source.now) fact base (use_view used.now).path }
 {
-    match &used.path {
-        None => 0,
-        Some(path) => source.condition_base(fact, base, path),
+    match used {
+        PathUse::Spelled(path) => source.condition_base(fact, base, path),
+        PathUse::Misspelled(_) => 0,
     }
 }
 

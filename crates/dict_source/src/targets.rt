@@ -4,6 +4,7 @@ ghost use Rattle.dict_source.specs.Dictionary.{dictionary_view};
 ghost use Rattle.dict_source.specs.Facts.{stated_view};
 ghost use Rattle.dict_source.specs.Finding.{IsNumber};
 ghost use Rattle.dict_source.specs.Targets.{AreTargets, base_name, collection_at, find_global, find_member, first_target, global_at, global_name, item_base, item_base_at, list_base, list_base_at, member_collection, second_target, targets};
+ghost use Rattle.dict_source.specs.View.{use_view};
 
 use crate::dict_source::DictSource;
 use crate::fact_source::{FactSource, TypeText};
@@ -50,11 +51,11 @@ fn base_name_of(path: &UsePath) -> Option<&Name>
 }
 
 fn base_of_use(used: &PathUse) -> Option<&Name>
-    ensures { option_copied result ≡ option_and_then base_name used.now.path }
+    ensures { option_copied result ≡ option_and_then base_name (use_view used.now).path }
 {
-    match &used.path {
-        None => None,
-        Some(path) => base_name_of(path),
+    match used {
+        PathUse::Spelled(path) => base_name_of(path),
+        PathUse::Misspelled(_) => None,
     }
 }
 

@@ -46,18 +46,18 @@ fn is_path_steady(source: &DictSource, known: &[bool], fact: u32, base: u32, pat
 fn is_use_steady(source: &DictSource, known: &[bool], fact: u32, base: u32, used: &PathUse) -> bool
     ensures { result ≡ steady_use (dictionary_view source.now) (known_at known.now) fact base (use_view used.now).path }
 {
-    match &used.path {
-        None => true,
-        Some(path) => is_path_steady(source, known, fact, base, path),
+    match used {
+        PathUse::Spelled(path) => is_path_steady(source, known, fact, base, path),
+        PathUse::Misspelled(_) => true,
     }
 }
 
 fn base_under(source: &DictSource, fact: u32, base: u32, used: &PathUse) -> u32
     ensures { result ≡ condition_base (dictionary_view source.now) fact base (use_view used.now).path }
 {
-    match &used.path {
-        None => 0,
-        Some(path) => source.condition_base(fact, base, path),
+    match used {
+        PathUse::Spelled(path) => source.condition_base(fact, base, path),
+        PathUse::Misspelled(_) => 0,
     }
 }
 

@@ -3,7 +3,7 @@ ghost use Rattle.std.specs.Prelude.{◌≡◌, IfOk, option_and_then};
 ghost use Rattle.dict_source.specs.Dictionary.{dictionary_view};
 ghost use Rattle.dict_source.specs.Mentions.{condition_base};
 ghost use Rattle.dict_source.specs.Tree.{read};
-ghost use Rattle.dict_source.specs.View.{literal_of};
+ghost use Rattle.dict_source.specs.View.{literal_of, use_view};
 ghost use Rattle.node_types.specs.StatedTypes.{type_at as type_of_fact};
 ghost use Rattle.dict_meaning.specs.Dependencies.{constant_value as value_of_constant};
 ghost use Rattle.node_eval.specs.View.{view};
@@ -52,11 +52,11 @@ fn resolve_path(path: &UsePath, targets: Targets) -> ResolvedPath
 /// The path of a use in this fact, resolved under a condition over the base, or with the base 0
 /// outside of conditions.
 pub fn resolve_use(source: &DictSource, fact: u32, base: u32, used: &PathUse) -> ResolvedPath
-    ensures { result ≡ resolved_use (dictionary_view source.now) fact base used.now.path }
+    ensures { result ≡ resolved_use (dictionary_view source.now) fact base (use_view used.now).path }
 {
-    match &used.path {
-        None => ResolvedPath::Global(0),
-        Some(path) => resolve_path(path, source.targets(fact, base, path)),
+    match used {
+        PathUse::Spelled(path) => resolve_path(path, source.targets(fact, base, path)),
+        PathUse::Misspelled(_) => ResolvedPath::Global(0),
     }
 }
 
@@ -93,24 +93,24 @@ fn read_of_targets(source: &DictSource, targets: Targets, op: ReadOp) -> NodeRea
 /// The node that reads a path.
 #[tactic(auto, using(node_eval::proofs::Views::views))]
 pub fn read_path(source: &DictSource, fact: u32, base: u32, op: ReadOp, used: &PathUse) -> Node
-    ensures { view result ≡ read (reading (dictionary_view source.now) fact base op used.now.path) }
+    ensures { view result ≡ read (reading (dictionary_view source.now) fact base op (use_view used.now).path) }
 {
-    match &used.path {
-        None => Node::Read(NodeRead::Dependency, ResolvedPath::Global(0)),
-        Some(path) => {
+    match used {
+        PathUse::Spelled(path) => {
             let targets = source.targets(fact, base, path);
             let op = read_of_targets(source, targets, op);
             Node::Read(op, resolve_path(path, targets))
         }
+        PathUse::Misspelled(_) => Node::Read(NodeRead::Dependency, ResolvedPath::Global(0)),
     }
 }
 
 /// The base of the condition of a Filter or a Find with this path.
 pub fn base_under(source: &DictSource, fact: u32, base: u32, used: &PathUse) -> u32
-    ensures { result ≡ condition_base (dictionary_view source.now) fact base used.now.path }
+    ensures { result ≡ condition_base (dictionary_view source.now) fact base (use_view used.now).path }
 {
-    match &used.path {
-        None => 0,
-        Some(path) => source.condition_base(fact, base, path),
+    match used {
+        PathUse::Spelled(path) => source.condition_base(fact, base, path),
+        PathUse::Misspelled(_) => 0,
     }
 }

@@ -55,13 +55,13 @@ pub fn path_type(
 ) -> Option<FactType>
     ensures { result ≡ type_of_path (dictionary_view source.now) fact base op (use_view used.now).path }
 {
-    match &used.path {
-        None => None,
-        Some(path) => target_type(
+    match used {
+        PathUse::Spelled(path) => target_type(
             source,
             op,
             last_target(path, source.targets(fact, base, path)),
         ),
+        PathUse::Misspelled(_) => None,
     }
 }
 
@@ -75,8 +75,8 @@ fn known(number: u32) -> Option<u32>
 pub fn picked_base(source: &DictSource, fact: u32, base: u32, used: &PathUse) -> Option<u32>
     ensures { result ≡ known_base (condition_base (dictionary_view source.now) fact base (use_view used.now).path) }
 {
-    match &used.path {
-        None => None,
-        Some(path) => known(source.condition_base(fact, base, path)),
+    match used {
+        PathUse::Spelled(path) => known(source.condition_base(fact, base, path)),
+        PathUse::Misspelled(_) => None,
     }
 }

@@ -43,9 +43,9 @@ fn number_of_base(source: &DictSource, path: &UsePath) -> u32
 fn number_of_use(source: &DictSource, used: &PathUse) -> u32
     ensures { result ≡ base_number (dictionary_view source.now) (option_and_then base_name (use_view used.now).path) }
 {
-    match &used.path {
-        None => 0,
-        Some(path) => number_of_base(source, path),
+    match used {
+        PathUse::Spelled(path) => number_of_base(source, path),
+        PathUse::Misspelled(_) => 0,
     }
 }
 

@@ -2,7 +2,7 @@
 ghost use Rattle.std.specs.Prelude.{◌≡◌, [], flat_map, IfOk, OnOk, option_and_then};
 ghost use Rattle.dict_source.specs.Dictionary.{dictionary_view};
 ghost use Rattle.dict_source.specs.Mentions.{condition_base};
-ghost use Rattle.dict_source.specs.View.{literal_of};
+ghost use Rattle.dict_source.specs.View.{literal_of, use_view};
 ghost use Rattle.node_types.specs.StatedTypes.{type_at as type_of_fact};
 ghost use Rattle.evaluation.specs.Reads.{sum_over, through_item};
 ghost use Rattle.evaluation.specs.SlotsRead.{fields_read, item_read};
@@ -237,16 +237,16 @@ pub fn read<G: EvalContext, N: Notes>(
     notes: &mut N,
 ) -> Result<Res, NoMemory>
     ensures value { IfOk result (λ r. r ≡ read_result (G.meaning context.now).tree (G.meaning context.now).results
-        (G.meaning context.now).fact at op used.now.path) }
+        (G.meaning context.now).fact at op (use_view used.now).path) }
     ensures reads { OnOk result (Noted N.keeps (N.noted notes.old) (node_reads (G.meaning context.now).tree
-        (G.meaning context.now).results (G.meaning context.now).fact at op used.now.path) (N.noted notes.new)) }
+        (G.meaning context.now).results (G.meaning context.now).fact at op (use_view used.now).path) (N.noted notes.new)) }
 {
-    match &used.path {
-        None => Ok(Res::Incomplete),
-        Some(path) => {
+    match used {
+        PathUse::Spelled(path) => {
             let targets = context.source().targets(context.fact(), at.base(), path);
             read_path(alloc, context, op, targets, at, path, notes)
         }
+        PathUse::Misspelled(_) => Ok(Res::Incomplete),
     }
 }
 
@@ -258,28 +258,28 @@ pub fn read_source<'a, G: EvalContext, N: Notes>(
     notes: &mut N,
 ) -> Result<&'a Res, NoMemory>
     ensures value { IfOk result (λ r. r.now ≡ source_result (G.meaning context.now).tree (G.meaning context.now).results
-        (G.meaning context.now).fact at used.now.path) }
+        (G.meaning context.now).fact at (use_view used.now).path) }
     ensures reads { OnOk result (Noted N.keeps (N.noted notes.old) (source_reads (G.meaning context.now).tree
-        (G.meaning context.now).fact at used.now.path) (N.noted notes.new)) }
+        (G.meaning context.now).fact at (use_view used.now).path) (N.noted notes.new)) }
 {
-    match &used.path {
-        None => Ok(context.result_at(None, 0)),
-        Some(path) => {
+    match used {
+        PathUse::Spelled(path) => {
             let targets = context.source().targets(context.fact(), at.base(), path);
             note(notes, targets.first, 0)?;
             Ok(context.result_at(targets.first, 0))
         }
+        PathUse::Misspelled(_) => Ok(context.result_at(None, 0)),
     }
 }
 
 /// The base of the condition of a Filter or a Find.
 pub fn base_under<G: EvalContext>(context: &G, at: EvalPosition, used: &PathUse) -> u32
-    ensures { result ≡ condition_base (G.meaning context.now).tree (G.meaning context.now).fact at.base used.now.path }
+    ensures { result ≡ condition_base (G.meaning context.now).tree (G.meaning context.now).fact at.base (use_view used.now).path }
 {
-    match &used.path {
-        None => 0,
-        Some(path) => context
+    match used {
+        PathUse::Spelled(path) => context
             .source()
             .condition_base(context.fact(), at.base(), path),
+        PathUse::Misspelled(_) => 0,
     }
 }
