@@ -5,6 +5,7 @@ pub mod ListingLaws
 pub mod MarkLaws
 pub mod PrintLaws
 pub mod ProgressLaws
+pub mod QuestionLaws
 pub mod StepLaws
 pub mod UndoLaws
 pub mod WatchLaws

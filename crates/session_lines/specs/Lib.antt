@@ -1,4 +1,5 @@
 pub mod Marks
+pub mod Questions
 pub mod Replies
 pub mod Firing
 pub mod Stepping

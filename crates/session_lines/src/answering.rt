@@ -10,10 +10,12 @@ ghost use Rattle.session_lines.specs.Stepping.{open_at, state_after};
 ghost use Rattle.session_lines.specs.Steps.{steps_of_line, steps_of_lines};
 ghost use Rattle.session_lines.specs.Tables.{heard_asks_checks, line_asks_checks};
 
+use crate::at_once::reply_at_once;
 use crate::command::answer_command;
+use crate::mark::PartyMark;
 use crate::progress::Progress;
 use crate::tables::Tables;
-use crate::writing::write_ended;
+use crate::writing::{write_ended, write_reply};
 use dictionary::FactEngine;
 use fact_watch::Watches;
 use fg_io::Sink;
@@ -23,8 +25,8 @@ use std::alloc::Global;
 use std::sync::ledger::Ledger;
 use steps::Steps;
 
-// Answers a line of at most 4,096 bytes.
-fn answer_line<E: FactEngine, L: Ledger, K: Sink>(
+// Answers a line of at most 4,096 bytes by the command that is read of it.
+fn answer_read<E: FactEngine, L: Ledger, K: Sink>(
     alloc: Global,
     session: &mut Session<E>,
     watches: &mut Watches,
@@ -57,6 +59,37 @@ fn answer_line<E: FactEngine, L: Ledger, K: Sink>(
         }
         Err(LineFault::BadLine) => write_ended(b"refused 1 BadLine\n", out),
         Err(LineFault::NoMemory) => Progress::OutOfMemory,
+    }
+}
+
+// Answers a line of at most 4,096 bytes.
+fn answer_line<E: FactEngine, L: Ledger, K: Sink>(
+    alloc: Global,
+    session: &mut Session<E>,
+    watches: &mut Watches,
+    tables: &Tables<'_>,
+    line: &[u8],
+    out: &mut K,
+    steps: &mut Steps<L>,
+) -> Progress
+    requires short { length line.now ≤ 4096 }
+    requires same_checks { IsTrue (heard_asks_checks (heard_in line.now)) → SameChecks (rules session.old.dict)
+        (named_checks tables.now.checks.now) }
+    requires few { session.old.changes < 2 ^ 63 }
+    ensures answered { AnsweredAs (rules session.old.dict) (K.output out.old) (K.output out.new)
+        (state_by session.old tables.now.relations.now watches.old) (state_by session.new tables.now.relations.now watches.new) (whole line.now ∷ []) result }
+    ensures kept { KeptAs (state_after (rules session.old.dict)
+        (open_at (state_by session.old tables.now.relations.now watches.old)) (whole line.now ∷ []))
+        (state_by session.old tables.now.relations.now watches.old) (state_by session.new tables.now.relations.now watches.new) result }
+    ensures dict { session.new.dict ≡ session.old.dict }
+    ensures few { session.new.changes ≤ session.old.changes + 1 }
+    ensures later { (K.output out.old).faults ≤ (K.output out.new).faults }
+    ensures steps { steps.new ≤ steps.old + steps_of_line E.most (rules session.old.dict)
+        (state_by session.old tables.now.relations.now watches.old) (whole line.now) }
+{
+    match reply_at_once(session, line) {
+        Some(reply) => write_reply(session, PartyMark::Unmarked, reply, out),
+        None => answer_read(alloc, session, watches, tables, line, out, steps),
     }
 }
 

@@ -2,6 +2,7 @@
 #![tactic(auto)]
 
 mod answering;
+mod at_once;
 mod changing;
 mod command;
 mod firing;
@@ -10,6 +11,7 @@ mod listing;
 mod mark;
 mod numbered;
 mod progress;
+mod question;
 mod reading;
 mod reply;
 mod tables;
