@@ -14,8 +14,9 @@ use Rattle.save_file.proofs.CarryLaws.{one_carry}
 use Rattle.saved_text.proofs.CarriedTexts.{one_text}
 use Rattle.saved_text.proofs.RefusedLaws.{refused_at_one}
 use Rattle.save_file.proofs.SameTexts.{one_saved}
-use Rattle.interview.specs.Beginnings.{Basis, Brings, IsBadText, IsCarriedAs, IsRefusedStart, IsStart, MayBring, Start, no_text, saved_limit, to_carry, to_load}
-use Rattle.interview.specs.Words.{Beginning, IsFrom, by_carry, by_load, unanswered}
+use Rattle.interview_ends.specs.Beginnings.{Basis, Brings, IsBadText, IsCarriedAs, IsRefusedStart, IsStart, MayBring, Start, no_text, saved_limit, to_carry, to_load}
+use Rattle.interview_ends.specs.Origins.{Beginning, by_carry, by_load, unanswered}
+use Rattle.interview.specs.Words.{IsFrom}
 
 -- ---- what they come from
 

@@ -15,22 +15,24 @@ use Rattle.script_lines.specs.Lines.{ScriptLine, ended_lines}
 use Rattle.session_lines.specs.Replies.{line_with}
 use Rattle.session_lines.specs.Writing.{WroteLines, WroteSome, pieces_of}
 use Rattle.session_lines.proofs.WritingLaws.{lines_on, some_before, some_on}
-use Rattle.interview.specs.Beginnings.{saved_limit}
+use Rattle.interview_ends.specs.Beginnings.{saved_limit}
 use Rattle.interview.specs.CallOrder.{AreDue, AreOfRun, AreOfSave, AreOutput, CameByPulls, EachFollowsReplies, EachLineIsOnePiece, Fetch, FetchedInOrder, FollowsReplies, IsOneLine, NameNoFile, NameThenSaved, NoCallBehindAFailedOne, NoneBehindFailed, NothingIsFetched, Pull, PulledInOrder, PullsFollowReplies, PutEach, came_of}
-use Rattle.interview.specs.Calls.{Answer, ByStillFetch, Calls, CallsForAccepted, CallsForDictionary, CallsForRun, CallsForSave, CallsForSaved, CallsInVain, IsDictionary, MaySave, PutsSaved, PutsSummary, ExchangeFrom, beside}
-use Rattle.interview.specs.Given.{Given}
-use Rattle.interview.specs.Interview.{answered_lines}
-use Rattle.interview.specs.LastLines.{PutBy, PutsOneLine}
-use Rattle.interview.specs.Load.{IsOfLoad, gen_lines}
-use Rattle.interview.specs.Meanings.{Meaning, meaning_of, silently}
-use Rattle.interview.specs.Save.{save_meaning}
-use Rattle.interview.specs.Exchange.{Came, PulledBehind, Exchange, Told, asked_behind, bytes_of}
-use Rattle.interview.specs.Words.{Beginning, IsCheck, IsForm, IsFrom, IsRun, IsSave, Origin, beginning_of, by_carry, by_load, file, origin_of, program, unanswered}
-use Rattle.interview.specs.declared.status.Status.{Status}
-use Rattle.interview.specs.declared.status.Status.TheVariants.{Done, DictionaryRefused, FetchFault as FailedFetch, NoMemory, ReadFault, SavedRefused, ScriptTooLong, Usage, WriteFault}
+use Rattle.interview_ends.specs.CallsFor.{Answer, ByStillFetch, CallsForAccepted, CallsForDictionary, CallsForRun, CallsForSave, CallsForSaved, CallsInVain, IsDictionary, MaySave, PutsSaved, PutsSummary, ExchangeFrom, beside}
+use Rattle.interview.specs.Calls.{Calls}
+use Rattle.interview_ends.specs.Given.{Given}
+use Rattle.script_runs.specs.DefinedScript.{answered_lines}
+use Rattle.interview_ends.specs.LastLines.{PutBy, PutsOneLine}
+use Rattle.interview_ends.specs.Load.{IsOfLoad, gen_lines}
+use Rattle.script_runs.specs.Meanings.{Meaning, meaning_of, silently}
+use Rattle.interview_ends.specs.Save.{save_meaning}
+use Rattle.script_runs.specs.Exchange.{Came, PulledBehind, Exchange, Told, asked_behind, bytes_of}
+use Rattle.interview_ends.specs.Origins.{Beginning, Origin, beginning_of, by_carry, by_load, file, origin_of, program, unanswered}
+use Rattle.interview.specs.Words.{IsCheck, IsForm, IsFrom, IsRun, IsSave}
+use Rattle.script_runs.specs.declared.status.Status.{Status}
+use Rattle.script_runs.specs.declared.status.Status.TheVariants.{Done, DictionaryRefused, FetchFault as FailedFetch, NoMemory, ReadFault, SavedRefused, ScriptTooLong, Usage, WriteFault}
 use Rattle.interview.specs.declared.words.Form.{Form}
 use Rattle.interview.specs.declared.words.Form.TheVariants.{Check, Gen, Run, Save, Unknown}
-use Rattle.interview.specs.declared.words.Mode.{Mode}
+use Rattle.script_runs.specs.declared.mode.Mode.{Mode}
 
 -- ---- what is fetched
 

@@ -20,17 +20,18 @@ use Rattle.graph_session.specs.Step as session
 use Rattle.graph_session.specs.declared.reply.Refusal.{Refusal}
 use Rattle.graph_session.specs.declared.reply.Reply.{Reply}
 use Rattle.graph_session.specs.declared.reply.Reply.TheVariants as replied
-use Rattle.interview.specs.declared.status.Status.{Status}
-use Rattle.interview.specs.declared.status.Status.TheVariants.{Done, DictionaryRefused, Usage, FetchFault, ReadFault, WriteFault, ScriptTooLong, NoMemory, SavedRefused}
-use Rattle.interview.specs.Beginnings.{Basis}
-use Rattle.interview.specs.Dictionaries.{Content}
+use Rattle.script_runs.specs.declared.status.Status.{Status}
+use Rattle.script_runs.specs.declared.status.Status.TheVariants.{Done, DictionaryRefused, Usage, FetchFault, ReadFault, WriteFault, ScriptTooLong, NoMemory, SavedRefused}
+use Rattle.interview_ends.specs.Beginnings.{Basis}
+use Rattle.interview_ends.specs.Dictionaries.{Content}
 use Rattle.interview.specs.Ends.{ComesTo, EndedByRun, Interviewed, KnownRun}
 use Rattle.interview.specs.Engines.{AsksNoCounts, EndedSo, EnginesAgree, LinesAgree, RunsAgree, RunAndPlainRun, asks_counts, is_of_counts, line_asks_counts}
-use Rattle.interview.specs.Given.{Did, EndedAs, Given, IsOneOf}
-use Rattle.interview.specs.Interview.{Defined, GoesOnTo, RunsTo, answered_lines, defined_script, script_limit}
-use Rattle.interview.specs.Meanings.{meaning_of}
-use Rattle.interview.specs.declared.words.Mode.{Mode}
-use Rattle.interview.specs.declared.words.Mode.TheVariants.{Incremental, Plain}
+use Rattle.interview_ends.specs.Given.{Did, EndedAs, Given, IsOneOf}
+use Rattle.script_runs.specs.DefinedScript.{Defined, answered_lines, defined_script, script_limit}
+use Rattle.interview.specs.Interview.{GoesOnTo, RunsTo}
+use Rattle.script_runs.specs.Meanings.{meaning_of}
+use Rattle.script_runs.specs.declared.mode.Mode.{Mode}
+use Rattle.script_runs.specs.declared.mode.Mode.TheVariants.{Incremental, Plain}
 use Rattle.interview.proofs.RunLaws.{one_run}
 use Rattle.session_lines.specs.Replies.{missing_output, reply_text}
 use Rattle.session_lines.specs.Stepping.{LineState, State, Step, at_start, cut_watch, open_at, place_in, put_watch, replies, said, state_after, step, step_answered, step_command, step_heard, step_line, watch_decided}

@@ -9,7 +9,7 @@ use Rattle.tax_2023.specs.Facts.{filing_statuses}
 use Rattle.built_in.specs.declared.built_in.BuiltIn.{BuiltIn}
 use Rattle.built_in.specs.declared.built_in.BuiltIn.TheVariants.{Year, Income}
 use Rattle.built_in.specs.BuiltIns.{IsBrought}
-use Rattle.interview.specs.Dictionaries.{Content, IsAcceptedAs, brought, spelled}
+use Rattle.interview_ends.specs.Dictionaries.{Content, IsAcceptedAs, brought, spelled}
 
 years_lists : AreLists filing_statuses
 years_lists = record { few = omega arith; distinct = refl; listed = refl }

@@ -12,34 +12,38 @@ use Rattle.dictionary.specs.AcceptedParts.{names_of}
 use Rattle.dictionary.specs.Faults.{IsFault}
 use Rattle.graph_session.specs.Rules.{Rules}
 use Rattle.built_in.specs.declared.built_in.BuiltIn.{BuiltIn}
-use Rattle.interview.specs.declared.status.Status.{Status}
-use Rattle.interview.specs.declared.status.Status.TheVariants.{Done, DictionaryRefused, Usage, FetchFault, ReadFault, WriteFault, ScriptTooLong, NoMemory, SavedRefused}
-use Rattle.interview.specs.declared.words.Mode.{Mode}
-use Rattle.interview.specs.declared.words.Mode.TheVariants.{Incremental}
-use Rattle.interview.specs.Words.{Beginning, IsRun, IsCheck, Fetches, HasNoForm, IsFrom, Origin, file, program, unanswered}
-use Rattle.interview.specs.Beginnings.{Basis, Brings, IsRefusedStart, IsStart, MayBring, Start}
-use Rattle.interview.specs.Dictionaries.{Content, Gives, HasFault, IsAcceptedAs, MayGive}
-use Rattle.interview.specs.Interview.{ChecksTo, Defined, GoesOnTo, RunsTo, TablesHoldIn, answered_lines, defined_fault, defined_run, defined_saved_refused, defined_script}
+use Rattle.script_runs.specs.declared.status.Status.{Status}
+use Rattle.script_runs.specs.declared.status.Status.TheVariants.{Done, DictionaryRefused, Usage, FetchFault, ReadFault, WriteFault, ScriptTooLong, NoMemory, SavedRefused}
+use Rattle.script_runs.specs.declared.mode.Mode.{Mode}
+use Rattle.script_runs.specs.declared.mode.Mode.TheVariants.{Incremental}
+use Rattle.interview_ends.specs.Origins.{Beginning, Origin, file, program, unanswered}
+use Rattle.interview.specs.Words.{IsRun, IsCheck, Fetches, HasNoForm, IsFrom}
+use Rattle.interview_ends.specs.Beginnings.{Basis, Brings, IsRefusedStart, IsStart, MayBring, Start}
+use Rattle.interview_ends.specs.Dictionaries.{Content, Gives, HasFault, IsAcceptedAs, MayGive}
+use Rattle.interview_ends.specs.DefinedEnds.{ChecksTo, defined_fault, defined_saved_refused}
+use Rattle.script_runs.specs.DefinedScript.{Defined, answered_lines, defined_script}
+use Rattle.interview.specs.Interview.{GoesOnTo, RunsTo, TablesHoldIn, defined_run}
 use Rattle.interview.specs.Finals.{AreFinalsKept}
 use Rattle.interview.specs.FinalFigures.{FinalsAreFigures}
 use Rattle.interview.proofs.FigureLaws.{finals_are_figures}
-use Rattle.interview.specs.Meanings.{meaning_of, texts}
-use Rattle.interview.specs.Devices.{BeforeAfter, SentPart, SentWhole, SinkFailed, SourceFailed}
+use Rattle.script_runs.specs.Meanings.{meaning_of, texts}
+use Rattle.script_runs.specs.Devices.{BeforeAfter, SentPart, SentWhole, SinkFailed, SourceFailed}
 use Rattle.interview.specs.GenEnds.{GenInterviewed}
 use Rattle.interview.specs.SaveEnds.{SaveInterviewed}
-use Rattle.interview.specs.ScriptEnds.{ReadThrough, ScriptEndsAs, did_behind}
-use Rattle.interview.specs.Given.{Did, EndedAs, Given, IsOneOf, Unread}
+use Rattle.script_runs.specs.ScriptEnds.{ReadThrough, ScriptEndsAs, did_behind}
+use Rattle.interview_ends.specs.Given.{Did, EndedAs, Given, IsOneOf, Unread}
 use Rattle.interview.specs.Ends.{AcceptedRun, BegunRun, RefusedRun, SavedRefusedRun, Check, CheckEndsAs, ComesTo, KnownDictionary, KnownRun, KnownCheck, LinePart, Ends, EndedByCheck, EndedByRun, FetchFailed, Interviewed, IsFetched, RefusedEnds, meaning_in}
 use Rattle.interview.proofs.BeginningLaws.{fits_at_start, known_basis, none_refused, nothing_brought, one_refusal, start_is_not_refused}
-use Rattle.interview.proofs.CheckLaws.{one_end}
-use Rattle.interview.proofs.DictionaryLaws.{accepted_is_faultless, brought_is_faultless, brought_is_this, known_content, nothing_missing, one_first_fault, one_set_of_rules, rules_are_accepted, rules_are_accepted_so, tables_hold}
+use Rattle.interview_ends.proofs.CheckLaws.{one_end}
+use Rattle.interview_ends.proofs.DictionaryLaws.{accepted_is_faultless, brought_is_faultless, brought_is_this, known_content, nothing_missing, one_first_fault, one_set_of_rules, rules_are_accepted, rules_are_accepted_so}
+use Rattle.interview.proofs.TableLaws.{tables_hold}
 use Rattle.interview.proofs.LeadLaws.{lines_lead_to_fit}
 use Rattle.interview.proofs.RunLaws.{one_run}
 use Rattle.interview.proofs.StartLaws.{part_behind, read_behind, taken_from, whole_behind}
 use Rattle.interview.proofs.WordLaws.{brought_unfetched, from_none, none_fetched, not_both, program_mode, same_beginning, same_check, same_mode, same_origin}
 use Rattle.interview.proofs.FinalLaws.{finals_are_kept}
-use Rattle.interview.proofs.MeaningLaws.{meaning_begins}
-use Rattle.interview.proofs.ScriptLaws.{ended_are_answered, nothing_part, part_by_lines, part_of}
+use Rattle.script_runs.proofs.MeaningLaws.{meaning_begins}
+use Rattle.script_runs.proofs.ScriptLaws.{ended_are_answered, nothing_part, part_by_lines, part_of}
 
 module _ (given : Given) where
   -- an accepted dictionary, a saved text where one is named, and a script that it may have been given, and what they come to

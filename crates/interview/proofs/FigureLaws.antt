@@ -30,10 +30,10 @@ use Rattle.tax_income.specs.Tables.{Numbered}
 use Rattle.built_in.specs.declared.built_in.BuiltIn.{BuiltIn}
 use Rattle.built_in.specs.declared.built_in.BuiltIn.TheVariants as built_ins
 use Rattle.built_in.specs.BuiltIns.{IsBrought}
-use Rattle.interview.specs.declared.words.Mode.{Mode}
-use Rattle.interview.specs.declared.words.Mode.TheVariants.{Incremental, Plain, Desk}
+use Rattle.script_runs.specs.declared.mode.Mode.{Mode}
+use Rattle.script_runs.specs.declared.mode.Mode.TheVariants.{Incremental, Plain, Desk}
 use Rattle.interview.specs.FinalFigures.{Figure, FinalsAreFigures, IsFigureOf, child_figures, income_figures, on_persons, person_figures, year_figures}
-use Rattle.interview.proofs.DictionaryLaws.{tables_hold}
+use Rattle.interview.proofs.TableLaws.{tables_hold}
 
 -- ---- each figure is what its slot is worth
 

@@ -9,8 +9,8 @@ use Rattle.session_lines.specs.Stepping.{at_start, state_after}
 use Rattle.session_lines.proofs.FinalLineLaws.{final_lines_stay}
 use Rattle.desk_lines.specs.DeskStepping.{desk_at_start, desk_state_after}
 use Rattle.desk_lines.proofs.DeskFinalLaws.{desk_final_lines_stay}
-use Rattle.interview.specs.declared.words.Mode.{Mode}
-use Rattle.interview.specs.declared.words.Mode.TheVariants.{Incremental, Plain, Desk}
+use Rattle.script_runs.specs.declared.mode.Mode.{Mode}
+use Rattle.script_runs.specs.declared.mode.Mode.TheVariants.{Incremental, Plain, Desk}
 use Rattle.interview.specs.Finals.{AreFinalsKept}
 
 pub finals_are_kept : (names : List (List ℕ)) (r : Rules) → IsAccepted names r.accepted → (mode : Mode) (relations : List Named) (a : Answered) (lines : List ScriptLine) → AreFinalsKept r mode relations a lines

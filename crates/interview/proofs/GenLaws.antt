@@ -2,19 +2,21 @@
 use Rattle.std.proofs.Common.{◌≡◌, ℕ, List, [], ◌∷◌, inl, inr, refl, sym, ap, subst}
 use Rattle.std.specs.Prelude.{◌⊎◌}
 use Rattle.std.proofs.lemmas.List.{append-nil}
-use Rattle.interview.specs.declared.status.Status.{Status}
-use Rattle.interview.specs.declared.status.Status.TheVariants.{Done, DictionaryRefused, Usage, FetchFault, ReadFault, WriteFault, ScriptTooLong, NoMemory, SavedRefused}
-use Rattle.interview.specs.Words.{IsCheck, IsGen, IsRun, Origin}
-use Rattle.interview.specs.Devices.{SentPart, SinkFailed}
-use Rattle.interview.specs.Given.{Did, Given, IsOneOf, Unread}
+use Rattle.script_runs.specs.declared.status.Status.{Status}
+use Rattle.script_runs.specs.declared.status.Status.TheVariants.{Done, DictionaryRefused, Usage, FetchFault, ReadFault, WriteFault, ScriptTooLong, NoMemory, SavedRefused}
+use Rattle.interview.specs.Words.{IsCheck, IsGen, IsRun}
+use Rattle.interview_ends.specs.Origins.{Origin}
+use Rattle.script_runs.specs.Devices.{SentPart, SinkFailed}
+use Rattle.interview_ends.specs.Given.{Did, Given, IsOneOf, Unread}
 use Rattle.interview.specs.Ends.{Ends, EndsByWord, Interviewed, IsFetched, LinePart}
 use Rattle.interview.specs.GenEnds.{EndedByGen, GenEnds, GenInterviewed}
-use Rattle.interview.specs.Interview.{Defined}
-use Rattle.interview.specs.Load.{GeneratedAs, GensTo}
+use Rattle.script_runs.specs.DefinedScript.{Defined}
+use Rattle.interview_ends.specs.Load.{GeneratedAs, GensTo}
 use Rattle.interview.proofs.ExactLaws.{final_figures, finals, interviewed, tables}
-use Rattle.interview.proofs.LoadLaws.{one_gen, same_gen}
+use Rattle.interview_ends.proofs.LoadLaws.{one_gen}
+use Rattle.interview.proofs.GenWordLaws.{same_gen}
 use Rattle.interview.proofs.SaveEndLaws.{known_saving, of_save, to_save}
-use Rattle.interview.proofs.ScriptLaws.{nothing_part, part_of}
+use Rattle.script_runs.proofs.ScriptLaws.{nothing_part, part_of}
 use Rattle.interview.proofs.WordLaws.{gen_fetches_nothing, gen_is_no_check, gen_is_no_run, gen_is_no_save}
 
 -- ---- what is known of it

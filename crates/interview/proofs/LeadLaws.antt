@@ -22,7 +22,7 @@ use Rattle.graph_session.specs.declared.reply.Refusal.{Refusal}
 use Rattle.graph_session.specs.declared.reply.Reply.{Reply}
 use Rattle.graph_session.proofs.FitLaws.{step_fits}
 use Rattle.graph_session.proofs.SoundLaws.{fit_start}
-use Rattle.interview.specs.Meanings.{of_session}
+use Rattle.script_runs.specs.Meanings.{of_session}
 use Rattle.session_lines.specs.Stepping.{LineState, ScriptStart, State, at_start, cut_watch, place_in, put_watch, state_after, step, step_answered, step_command, step_heard, step_line, watch_decided}
 
 module _ (r : Rules) where

@@ -2,12 +2,14 @@
 use Rattle.std.proofs.Common.{◌≡◌, ℕ, List, inl, inr, sym, ap, subst, ◌∙◌}
 use Rattle.dictionary.specs.AcceptedParts.{Named}
 use Rattle.graph_session.specs.Rules.{Rules}
-use Rattle.interview.specs.declared.words.Mode.{Mode}
-use Rattle.interview.specs.Beginnings.{Basis}
-use Rattle.interview.specs.Dictionaries.{Content, IsAcceptedAs}
-use Rattle.interview.specs.Interview.{Defined, GoesOnTo, OneEndOfRun, defined_fault, defined_run, defined_saved_refused}
+use Rattle.script_runs.specs.declared.mode.Mode.{Mode}
+use Rattle.interview_ends.specs.Beginnings.{Basis}
+use Rattle.interview_ends.specs.Dictionaries.{Content, IsAcceptedAs}
+use Rattle.script_runs.specs.DefinedScript.{Defined}
+use Rattle.interview.specs.Interview.{GoesOnTo, OneEndOfRun, defined_run}
+use Rattle.interview_ends.specs.DefinedEnds.{defined_fault, defined_saved_refused}
 use Rattle.interview.proofs.BeginningLaws.{one_refusal, one_start, start_is_not_refused}
-use Rattle.interview.proofs.DictionaryLaws.{accepted_is_faultless, one_first_fault, one_set_of_rules, rules_are_accepted}
+use Rattle.interview_ends.proofs.DictionaryLaws.{accepted_is_faultless, one_first_fault, one_set_of_rules, rules_are_accepted}
 use Rattle.interview.proofs.EnumLaws.{accepted_lists}
 
 module _ (checks : List Named) (content : Content) (basis : Basis) (mode : Mode) (relations : List Named) (script : List ℕ) where

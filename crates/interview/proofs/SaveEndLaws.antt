@@ -8,23 +8,25 @@ use Rattle.fg_io.specs.Outside.{MayBe, Output, missing}
 use Rattle.dictionary.specs.declared.fault.DictFault.{DictFault}
 use Rattle.graph_session.specs.Rules.{Rules}
 use Rattle.built_in.specs.declared.built_in.BuiltIn.{BuiltIn}
-use Rattle.interview.specs.declared.status.Status.{Status}
-use Rattle.interview.specs.declared.status.Status.TheVariants.{Done, DictionaryRefused, Usage, FetchFault, ReadFault, WriteFault, ScriptTooLong, NoMemory, SavedRefused}
-use Rattle.interview.specs.Words.{IsCheck, IsRun, IsSave, Origin, file, program}
-use Rattle.interview.specs.Devices.{BeforeAfter, SentNothing, SentPart, SentWhole, SinkFailed, SourceFailed}
-use Rattle.interview.specs.Dictionaries.{Content, Gives, HasFault, IsAcceptedAs, MayGive}
-use Rattle.interview.specs.Given.{Did, EndedAs, Given, IsOneOf, Unread}
+use Rattle.script_runs.specs.declared.status.Status.{Status}
+use Rattle.script_runs.specs.declared.status.Status.TheVariants.{Done, DictionaryRefused, Usage, FetchFault, ReadFault, WriteFault, ScriptTooLong, NoMemory, SavedRefused}
+use Rattle.interview.specs.Words.{IsCheck, IsRun, IsSave}
+use Rattle.interview_ends.specs.Origins.{Origin, file, program}
+use Rattle.script_runs.specs.Devices.{BeforeAfter, SentNothing, SentPart, SentWhole, SinkFailed, SourceFailed}
+use Rattle.interview_ends.specs.Dictionaries.{Content, Gives, HasFault, IsAcceptedAs, MayGive}
+use Rattle.interview_ends.specs.Given.{Did, EndedAs, Given, IsOneOf, Unread}
 use Rattle.interview.specs.Ends.{Ends, EndsByWord, Interviewed, IsFetched, LinePart}
 use Rattle.interview.specs.GenEnds.{GenInterviewed}
-use Rattle.interview.specs.Interview.{Defined, defined_fault}
-use Rattle.interview.specs.Save.{DoneWith, defined_save, save_meaning, saved_after, text_with}
+use Rattle.script_runs.specs.DefinedScript.{Defined}
+use Rattle.interview_ends.specs.DefinedEnds.{defined_fault}
+use Rattle.interview_ends.specs.Save.{DoneWith, defined_save, save_meaning, saved_after, text_with}
 use Rattle.interview.specs.SaveEnds.{AcceptedSave, AreToSave, EndedBySave, KnownSave, RefusedSave, SaveComesTo, SaveEnds, SaveFetchFailed, SaveInterviewed}
-use Rattle.interview.specs.ScriptEnds.{ReadThrough}
-use Rattle.interview.proofs.DictionaryLaws.{accepted_is_faultless, brought_is_faultless, known_content, nothing_missing}
+use Rattle.script_runs.specs.ScriptEnds.{ReadThrough}
+use Rattle.interview_ends.proofs.DictionaryLaws.{accepted_is_faultless, brought_is_faultless, known_content, nothing_missing}
 use Rattle.interview.proofs.ExactLaws.{final_figures, finals, tables}
-use Rattle.interview.proofs.SaveLaws.{one_save}
+use Rattle.interview_ends.proofs.SaveLaws.{one_save}
 use Rattle.interview.proofs.WordLaws.{gen_is_no_save, save_is_no_check, save_is_no_fetch, save_is_no_run, same_save}
-use Rattle.interview.proofs.ScriptLaws.{nothing_part, part_of}
+use Rattle.script_runs.proofs.ScriptLaws.{nothing_part, part_of}
 
 none_of_done : IsOneOf Done (FetchFault ∷ ReadFault ∷ ScriptTooLong ∷ NoMemory ∷ []) → ⊥
 none_of_done (inl is) = cc

@@ -1,6 +1,6 @@
 -- A script that begins behind a text already put: what was written and read, seen from after that text.
 use Rattle.std.proofs.Common.{◌≡◌, ℕ, ◌≤◌, List, [], ◌++◌, Option, inl, inr, subst}
-use Rattle.interview.specs.Given.{Did}
+use Rattle.interview_ends.specs.Given.{Did}
 use Rattle.std.specs.Io.KnownBytes.{Appends, Keeps}
 use Rattle.std.proofs.KnownBytes.{Keeps-refl}
 use Rattle.answers.specs.Answered.{Answered}
@@ -12,16 +12,16 @@ use Rattle.fg_io.specs.Writing.{WrotePart}
 use Rattle.fg_io.proofs.SentLaws.{appends_more, rose_before, sent_on, sent_whole, whole_sent}
 use Rattle.graph_session.specs.Rules.{Rules}
 use Rattle.script_lines.specs.Joined.{joined}
-use Rattle.interview.specs.Meanings.{Meaning, meaning_of}
-use Rattle.interview.specs.declared.status.Status.{Status}
-use Rattle.interview.specs.declared.status.Status.TheVariants.{Done, ReadFault, WriteFault, ScriptTooLong, NoMemory}
-use Rattle.interview.specs.Devices.{BeforeAfter, SentPart, SentWhole}
-use Rattle.interview.specs.ScriptEnds.{ReadThrough, ScriptDid, ScriptEnds, UnreadScript, did_behind}
-use Rattle.interview.specs.StepEnds.{Gives, ResumedAs, RunEnds, StartEnds}
-use Rattle.interview.specs.declared.resuming.Ready.{Ready}
-use Rattle.interview.specs.declared.resuming.Resumed.TheVariants as resumed
-use Rattle.interview.specs.declared.words.Mode.{Mode}
-use Rattle.interview.specs.Words.{Beginning}
+use Rattle.script_runs.specs.Meanings.{Meaning, meaning_of}
+use Rattle.script_runs.specs.declared.status.Status.{Status}
+use Rattle.script_runs.specs.declared.status.Status.TheVariants.{Done, ReadFault, WriteFault, ScriptTooLong, NoMemory}
+use Rattle.script_runs.specs.Devices.{BeforeAfter, SentPart, SentWhole}
+use Rattle.script_runs.specs.ScriptEnds.{ReadThrough, ScriptDid, ScriptEnds, UnreadScript, did_behind}
+use Rattle.interview_ends.specs.StepEnds.{Gives, ResumedAs, RunEnds, StartEnds}
+use Rattle.interview_ends.specs.declared.resuming.Ready.{Ready}
+use Rattle.interview_ends.specs.declared.resuming.Resumed.TheVariants as resumed
+use Rattle.script_runs.specs.declared.mode.Mode.{Mode}
+use Rattle.interview_ends.specs.Origins.{Beginning}
 
 -- ---- what the sink took in all
 

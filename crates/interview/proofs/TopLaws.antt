@@ -7,15 +7,17 @@ use Rattle.fg_io.proofs.PutLaws.{rose_behind}
 use Rattle.script_lines.specs.Joined.{joined}
 use Rattle.dictionary.specs.declared.fault.DictFault.{DictFault}
 use Rattle.graph_session.specs.Rules.{Rules}
-use Rattle.interview.specs.declared.status.Status.{Status}
-use Rattle.interview.specs.declared.status.Status.TheVariants.{Done, DictionaryRefused, Usage, FetchFault, ReadFault, WriteFault, ScriptTooLong, NoMemory, SavedRefused}
-use Rattle.interview.specs.Words.{Beginning, HasNoForm, IsFrom, IsRun, Origin, by_carry, by_load, file, program, unanswered}
-use Rattle.interview.specs.Beginnings.{Basis, IsRefusedStart, IsStart, MayBring, Start}
-use Rattle.interview.specs.Dictionaries.{Content, HasFault, IsAcceptedAs, MayGive}
-use Rattle.interview.specs.Interview.{defined_fault, defined_saved_refused, usage}
-use Rattle.interview.specs.ScriptEnds.{EndsBefore, EndsBehind}
-use Rattle.interview.specs.StepEnds.{EndedBy, NotFetched, NotObtained, NotResumed, RunEnds, StartEnds}
-use Rattle.interview.specs.Given.{Did, Given, Unread}
+use Rattle.script_runs.specs.declared.status.Status.{Status}
+use Rattle.script_runs.specs.declared.status.Status.TheVariants.{Done, DictionaryRefused, Usage, FetchFault, ReadFault, WriteFault, ScriptTooLong, NoMemory, SavedRefused}
+use Rattle.interview_ends.specs.Origins.{Beginning, Origin, by_carry, by_load, file, program, unanswered}
+use Rattle.interview.specs.Words.{HasNoForm, IsFrom, IsRun}
+use Rattle.interview_ends.specs.Beginnings.{Basis, IsRefusedStart, IsStart, MayBring, Start}
+use Rattle.interview_ends.specs.Dictionaries.{Content, HasFault, IsAcceptedAs, MayGive}
+use Rattle.interview_ends.specs.DefinedEnds.{defined_fault, defined_saved_refused}
+use Rattle.interview.specs.Interview.{usage}
+use Rattle.script_runs.specs.ScriptEnds.{EndsBefore, EndsBehind}
+use Rattle.interview_ends.specs.StepEnds.{EndedBy, NotFetched, NotObtained, NotResumed, RunEnds, StartEnds}
+use Rattle.interview_ends.specs.Given.{Did, Given, Unread}
 use Rattle.interview.specs.Ends.{AcceptedRun, BegunRun, Ends, RefusedRun, SavedRefusedRun, meaning_in}
 
 -- ---- ends

@@ -7,9 +7,10 @@ use Rattle.built_in.specs.declared.built_in.BuiltIn.{BuiltIn}
 use Rattle.built_in.specs.declared.built_in.BuiltIn.TheVariants.{Year, Income}
 use Rattle.built_in.specs.BuiltIns.{program_income_of}
 use Rattle.tax_2023.specs.Years.{year_of_word}
-use Rattle.interview.specs.declared.words.Mode.{Mode}
-use Rattle.interview.specs.declared.words.Mode.TheVariants.{Incremental, Plain, Desk}
-use Rattle.interview.specs.Words.{Beginning, Fetches, HasNoForm, IsCheck, IsFrom, IsGen, IsRun, IsRunOver, IsSave, Origin, by_carry, by_load, file, program, unanswered}
+use Rattle.script_runs.specs.declared.mode.Mode.{Mode}
+use Rattle.script_runs.specs.declared.mode.Mode.TheVariants.{Incremental, Plain, Desk}
+use Rattle.interview_ends.specs.Origins.{Beginning, Origin, by_carry, by_load, file, program, unanswered}
+use Rattle.interview.specs.Words.{Fetches, HasNoForm, IsCheck, IsFrom, IsGen, IsRun, IsRunOver, IsSave}
 
 -- ---- what words ask for
 

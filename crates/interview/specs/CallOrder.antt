@@ -10,19 +10,21 @@ use Rattle.script_lines.specs.Lines.{ScriptLine}
 use Rattle.graph_session.specs.Rules.{Rules, tree_of}
 use Rattle.saved_text.specs.SavedText.{saved_lines}
 use Rattle.session_lines.specs.Writing.{pieces_of}
-use Rattle.interview.specs.Beginnings.{Basis, IsStart, MayBring, Start, saved_limit}
-use Rattle.interview.specs.Calls.{Answer, ByStillFetch, Calls, IsDictionary, beside}
-use Rattle.interview.specs.Given.{Given}
-use Rattle.interview.specs.Load.{IsOfLoad, gen_lines}
-use Rattle.interview.specs.Meanings.{Meaning, meaning_of}
-use Rattle.interview.specs.Save.{save_meaning}
-use Rattle.interview.specs.Exchange.{IsToGoOn, Exchange}
-use Rattle.interview.specs.Words.{Beginning, HasNoForm, IsCheck, IsForm, IsFrom, IsGen, IsRun, IsSave, Origin, beginning_of, file, program, unanswered}
-use Rattle.interview.specs.declared.status.Status.{Status}
-use Rattle.interview.specs.declared.status.Status.TheVariants.{FetchFault as FailedFetch}
+use Rattle.interview_ends.specs.Beginnings.{Basis, IsStart, MayBring, Start, saved_limit}
+use Rattle.interview_ends.specs.CallsFor.{Answer, ByStillFetch, IsDictionary, beside}
+use Rattle.interview.specs.Calls.{Calls}
+use Rattle.interview_ends.specs.Given.{Given}
+use Rattle.interview_ends.specs.Load.{IsOfLoad, gen_lines}
+use Rattle.script_runs.specs.Meanings.{Meaning, meaning_of}
+use Rattle.interview_ends.specs.Save.{save_meaning}
+use Rattle.script_runs.specs.Exchange.{IsToGoOn, Exchange}
+use Rattle.interview_ends.specs.Origins.{Beginning, Origin, beginning_of, file, program, unanswered}
+use Rattle.interview.specs.Words.{HasNoForm, IsCheck, IsForm, IsFrom, IsGen, IsRun, IsSave}
+use Rattle.script_runs.specs.declared.status.Status.{Status}
+use Rattle.script_runs.specs.declared.status.Status.TheVariants.{FetchFault as FailedFetch}
 use Rattle.interview.specs.declared.words.Form.{Form}
 use Rattle.interview.specs.declared.words.Form.TheVariants.{Check, Gen, Run, Save, Unknown}
-use Rattle.interview.specs.declared.words.Mode.{Mode}
+use Rattle.script_runs.specs.declared.mode.Mode.{Mode}
 
 -- ---- the calls of a device
 

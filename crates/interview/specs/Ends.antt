@@ -7,21 +7,24 @@ use Rattle.dictionary.specs.declared.fault.DictFault.{DictFault}
 use Rattle.dictionary.specs.AcceptedParts.{names_of}
 use Rattle.dictionary.specs.Faults.{IsFault}
 use Rattle.graph_session.specs.Rules.{Rules}
-use Rattle.interview.specs.declared.status.Status.{Status}
-use Rattle.interview.specs.declared.status.Status.TheVariants.{Done, DictionaryRefused, Usage, FetchFault, ReadFault, WriteFault, ScriptTooLong, NoMemory, SavedRefused}
-use Rattle.interview.specs.Devices.{SentNothing, SentPart, SentWhole, ShelfFailed, SinkFailed, SourceFailed}
+use Rattle.script_runs.specs.declared.status.Status.{Status}
+use Rattle.script_runs.specs.declared.status.Status.TheVariants.{Done, DictionaryRefused, Usage, FetchFault, ReadFault, WriteFault, ScriptTooLong, NoMemory, SavedRefused}
+use Rattle.script_runs.specs.Devices.{SentNothing, SentPart, SentWhole, ShelfFailed, SinkFailed, SourceFailed}
 use Rattle.built_in.specs.declared.built_in.BuiltIn.{BuiltIn}
-use Rattle.interview.specs.Beginnings.{Basis, Brings, IsRefusedStart, IsStart, MayBring, Start}
-use Rattle.interview.specs.Dictionaries.{Content, Gives, HasFault, IsAcceptedAs, MayGive}
-use Rattle.interview.specs.Interview.{ChecksTo, Defined, RunsTo, TablesHoldIn, defined_fault, defined_saved_refused, usage}
+use Rattle.interview_ends.specs.Beginnings.{Basis, Brings, IsRefusedStart, IsStart, MayBring, Start}
+use Rattle.interview_ends.specs.Dictionaries.{Content, Gives, HasFault, IsAcceptedAs, MayGive}
+use Rattle.interview_ends.specs.DefinedEnds.{ChecksTo, defined_fault, defined_saved_refused}
+use Rattle.script_runs.specs.DefinedScript.{Defined}
+use Rattle.interview.specs.Interview.{RunsTo, TablesHoldIn, usage}
 use Rattle.interview.specs.Finals.{AreFinalsKept}
 use Rattle.interview.specs.FinalFigures.{FinalsAreFigures}
-use Rattle.interview.specs.Meanings.{Meaning, meaning_of}
+use Rattle.script_runs.specs.Meanings.{Meaning, meaning_of}
 use Rattle.interview.specs.GenEnds.{GenEnds, GenInterviewed}
 use Rattle.interview.specs.SaveEnds.{SaveEnds, SaveInterviewed}
-use Rattle.interview.specs.Given.{Did, EndedAs, Given, IsOneOf, Unread}
-use Rattle.interview.specs.ScriptEnds.{EndsBehind, ReadThrough}
-use Rattle.interview.specs.Words.{Fetches, HasNoForm, IsCheck, IsFrom, IsRun, Origin, program, unanswered}
+use Rattle.interview_ends.specs.Given.{Did, EndedAs, Given, IsOneOf, Unread}
+use Rattle.script_runs.specs.ScriptEnds.{EndsBehind, ReadThrough}
+use Rattle.interview.specs.Words.{Fetches, HasNoForm, IsCheck, IsFrom, IsRun}
+use Rattle.interview_ends.specs.Origins.{Origin, program, unanswered}
 
 -- a dictionary that it may have been given to run, wherever it came from, and that is accepted
 pub record AcceptedRun (given : Given) : Type 0 where

@@ -8,15 +8,16 @@ use Rattle.answers.specs.Answered.{Answered}
 use Rattle.dictionary.specs.AcceptedParts.{Named}
 use Rattle.graph_session.specs.Rules.{Rules}
 use Rattle.session_lines.specs.Stepping.{at_start, state_after, step}
-use Rattle.interview.specs.declared.status.Status.{Status}
-use Rattle.interview.specs.declared.status.Status.TheVariants.{Done, DictionaryRefused, ScriptTooLong, SavedRefused}
-use Rattle.interview.specs.Beginnings.{Basis}
-use Rattle.interview.specs.Dictionaries.{Content}
+use Rattle.script_runs.specs.declared.status.Status.{Status}
+use Rattle.script_runs.specs.declared.status.Status.TheVariants.{Done, DictionaryRefused, ScriptTooLong, SavedRefused}
+use Rattle.interview_ends.specs.Beginnings.{Basis}
+use Rattle.interview_ends.specs.Dictionaries.{Content}
 use Rattle.interview.specs.Ends.{Interviewed, KnownRun}
-use Rattle.interview.specs.Given.{Did, EndedAs, Given, IsOneOf}
-use Rattle.interview.specs.Interview.{Defined, RunsTo, defined_script}
-use Rattle.interview.specs.Meanings.{meaning_of}
-use Rattle.interview.specs.declared.words.Mode.TheVariants.{Incremental, Plain}
+use Rattle.interview_ends.specs.Given.{Did, EndedAs, Given, IsOneOf}
+use Rattle.script_runs.specs.DefinedScript.{Defined, defined_script}
+use Rattle.interview.specs.Interview.{RunsTo}
+use Rattle.script_runs.specs.Meanings.{meaning_of}
+use Rattle.script_runs.specs.declared.mode.Mode.TheVariants.{Incremental, Plain}
 
 -- the commands that ask for what an engine counts
 abbrev pub asks_counts : Command → Bool

@@ -30,10 +30,10 @@ use Rattle.tax_income.specs.Tables.{Numbered, credit_children, is_credit_child, 
 use Rattle.tax_income.specs.Years.{IncomeYear, income_of}
 use Rattle.built_in.specs.declared.built_in.BuiltIn.{BuiltIn}
 use Rattle.built_in.specs.declared.built_in.BuiltIn.TheVariants as built_ins
-use Rattle.interview.specs.declared.words.Mode.{Mode}
-use Rattle.interview.specs.declared.words.Mode.TheVariants.{Incremental, Plain, Desk}
+use Rattle.script_runs.specs.declared.mode.Mode.{Mode}
+use Rattle.script_runs.specs.declared.mode.Mode.TheVariants.{Incremental, Plain, Desk}
 use Rattle.interview.specs.Interview.{IsAnsweredBy}
-use Rattle.interview.specs.Meanings.{meaning_of}
+use Rattle.script_runs.specs.Meanings.{meaning_of}
 
 -- ---- the figures of the tables
 

@@ -8,8 +8,8 @@ use Rattle.session_lines.specs.Laws.{FinalsHold}
 use Rattle.session_lines.specs.Stepping.{at_start, state_after}
 use Rattle.desk_lines.specs.DeskLaws.{DeskFinalsHold}
 use Rattle.desk_lines.specs.DeskStepping.{desk_at_start, desk_state_after}
-use Rattle.interview.specs.declared.words.Mode.{Mode}
-use Rattle.interview.specs.declared.words.Mode.TheVariants.{Incremental, Plain, Desk}
+use Rattle.script_runs.specs.declared.mode.Mode.{Mode}
+use Rattle.script_runs.specs.declared.mode.Mode.TheVariants.{Incremental, Plain, Desk}
 
 -- where these lines lead: what is printed as final there is complete, and stays so under every extension of the answers
 abbrev pub AreFinalsKept : Rules → Mode → List Named → Answered → List ScriptLine → Type 0

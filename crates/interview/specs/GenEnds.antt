@@ -1,11 +1,11 @@
 -- How an interview ends for the word `gen`, and what is known of it when it ends.
 use Rattle.std.specs.Prelude.{◌≡◌, ◌⊎◌, ℕ, [], ◌∷◌}
-use Rattle.interview.specs.declared.status.Status.{Status}
-use Rattle.interview.specs.declared.status.Status.TheVariants.{WriteFault, NoMemory}
-use Rattle.interview.specs.Devices.{SentPart, SinkFailed}
-use Rattle.interview.specs.Given.{Did, EndedAs, Given, IsOneOf, Unread}
-use Rattle.interview.specs.Interview.{Defined}
-use Rattle.interview.specs.Load.{GeneratedAs, GensTo}
+use Rattle.script_runs.specs.declared.status.Status.{Status}
+use Rattle.script_runs.specs.declared.status.Status.TheVariants.{WriteFault, NoMemory}
+use Rattle.script_runs.specs.Devices.{SentPart, SinkFailed}
+use Rattle.interview_ends.specs.Given.{Did, EndedAs, Given, IsOneOf, Unread}
+use Rattle.script_runs.specs.DefinedScript.{Defined}
+use Rattle.interview_ends.specs.Load.{GeneratedAs, GensTo}
 use Rattle.interview.specs.Words.{IsGen}
 
 -- with so many sums, by the table of its ends, without the given script

@@ -1,17 +1,11 @@
 -- The defined interview: what words, a dictionary and a script are to write, and the status at the end.
-use Rattle.std.specs.Prelude.{◌≡◌, ◌⊎◌, ℕ, List, ◌++◌, length, take, codes, nat_le, if◌then◌else◌}
+use Rattle.std.specs.Prelude.{◌≡◌, ◌⊎◌, ℕ, List, ◌++◌, codes}
 use Rattle.dictionary.specs.declared.fault.DictFault.{DictFault}
-use Rattle.dict_meaning.specs.Accepted.{Accepted}
-use Rattle.dictionary.specs.AcceptedParts.{Named, names_of}
-use Rattle.dictionary.specs.Faults.{AreAccepted, IsFault}
-use Rattle.dictionary.specs.Keeping.{node_count}
+use Rattle.dictionary.specs.AcceptedParts.{Named}
 use Rattle.script_lines.specs.Joined.{joined}
-use Rattle.script_lines.specs.Lines.{ScriptLine, script_lines, ended_lines}
 use Rattle.graph_session.specs.Rules.{Rules, tree_of}
-use Rattle.interview.specs.declared.status.Status.{Status}
-use Rattle.interview.specs.declared.status.Status.TheVariants.{Done, DictionaryRefused, Usage, ScriptTooLong, SavedRefused}
+use Rattle.script_runs.specs.declared.status.Status.TheVariants.{Usage}
 use Rattle.session_lines.specs.Replies.{line_with}
-use Rattle.interview.specs.FaultLines.{accepted_line, fault_line, saved_refused_line}
 use Rattle.tax_2023.specs.Household.{Household}
 use Rattle.tax_2023.specs.Answers.{AreOfHousehold}
 use Rattle.tax_2023.specs.Laws.{HasTables, IsModest}
@@ -23,39 +17,15 @@ use Rattle.tax_income.specs.Years.{IncomeYear, income_of}
 use Rattle.answers.specs.Answered.{Answered}
 use Rattle.built_in.specs.declared.built_in.BuiltIn.{BuiltIn}
 use Rattle.built_in.specs.declared.built_in.BuiltIn.TheVariants.{Year, Income}
-use Rattle.interview.specs.declared.words.Mode.{Mode}
-use Rattle.interview.specs.Meanings.{Meaning, meaning_of, texts}
-use Rattle.interview.specs.Beginnings.{Basis, IsRefusedStart, IsStart, Start}
-use Rattle.interview.specs.Dictionaries.{Content, HasFault, IsAcceptedAs}
-
--- a text, and the status that comes with it
-pub record Defined : Type 0 where
-  pub text : List ℕ
-  pub status : Status
+use Rattle.script_runs.specs.declared.mode.Mode.{Mode}
+use Rattle.script_runs.specs.Meanings.{meaning_of}
+use Rattle.interview_ends.specs.Beginnings.{Basis, IsRefusedStart, IsStart, Start}
+use Rattle.interview_ends.specs.Dictionaries.{Content, HasFault, IsAcceptedAs}
+use Rattle.script_runs.specs.DefinedScript.{Defined, defined_script}
+use Rattle.interview_ends.specs.DefinedEnds.{defined_fault, defined_saved_refused}
 
 abbrev pub usage : Defined
 usage = record { text = line_with (codes "usage: interview COMMAND ARGUMENTS"); status = Usage }
-
--- the line of a dictionary's first fault
-abbrev pub defined_fault : DictFault → Defined
-defined_fault fault = record { text = fault_line fault; status = DictionaryRefused }
-
--- ---- a script over an accepted dictionary
-
-abbrev pub script_limit : ℕ
-script_limit = 67108864
-
--- the lines that are answered: all of a script within the limit, and else those that end within it
-unfoldable pub answered_lines : List ℕ → List ScriptLine
-answered_lines script = if nat_le (length script) script_limit then script_lines script else ended_lines (take script_limit script)
-
--- What a script is to give whose lines mean this: the texts of these lines; past the limit it is too long, but where one of them is
--- `quit`.
-unfoldable pub defined_script : Meaning → List ℕ → Defined
-defined_script m script = record {
-  text = texts m (answered_lines script);
-  status = if nat_le (length script) script_limit then Done else if m.over (answered_lines script) then Done else ScriptTooLong;
-}
 
 -- ---- runs
 
@@ -64,10 +34,6 @@ abbrev pub defined_run : Rules → Mode → List Named → Start → List ℕ �
 defined_run r mode relations s script =
     let given = defined_script (meaning_of r mode relations s.answers) script in
     record { text = joined s.front ++ given.text; status = given.status }
-
--- the line of a saved text that is refused
-abbrev pub defined_saved_refused : ℕ → Defined
-defined_saved_refused n = record { text = saved_refused_line n; status = SavedRefused }
 
 -- what is given over an accepted dictionary: a script that begins as the saved text says, or the line at which that is refused
 abbrev pub GoesOnTo : Rules → Basis → Mode → List Named → List ℕ → Defined → Type 0
@@ -83,23 +49,9 @@ RunsTo content checks basis mode relations script d =
     ((r : Rules) × IsAcceptedAs checks content r × GoesOnTo r basis mode relations script d)
     ⊎ ((fault : DictFault) × HasFault checks content fault × (d ≡ defined_fault fault))
 
--- ---- `check`
-
-abbrev pub defined_accepted : Accepted → Defined
-defined_accepted dict = record { text = accepted_line (length dict.tree.facts) (node_count dict.tree); status = Done }
-
--- what a check is to give over the bytes of a dictionary, with these checks of texts
-abbrev pub ChecksTo : List ℕ → List Named → Defined → Type 0
-ChecksTo bytes checks d =
-    ((dict : Accepted) × AreAccepted bytes (names_of checks) dict × (d ≡ defined_accepted dict))
-    ⊎ ((fault : DictFault) × IsFault bytes (names_of checks) fault × (d ≡ defined_fault fault))
-
 -- ---- laws
 
--- a check comes to one text and one status at most, and so does a run
-abbrev pub OneEndOfCheck : Type 0
-OneEndOfCheck = (bytes : List ℕ) (checks : List Named) (d e : Defined) → ChecksTo bytes checks d → ChecksTo bytes checks e → d ≡ e
-
+-- a run comes to one text and one status at most
 abbrev pub OneEndOfRun : Type 0
 OneEndOfRun =
     (content : Content) (checks : List Named) (basis : Basis) (mode : Mode) (relations : List Named) (script : List ℕ) (d e : Defined)

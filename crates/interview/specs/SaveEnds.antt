@@ -4,15 +4,17 @@ use Rattle.fg_io.specs.Outside.{missing}
 use Rattle.dictionary.specs.declared.fault.DictFault.{DictFault}
 use Rattle.graph_session.specs.Rules.{Rules}
 use Rattle.built_in.specs.declared.built_in.BuiltIn.{BuiltIn}
-use Rattle.interview.specs.declared.status.Status.{Status}
-use Rattle.interview.specs.declared.status.Status.TheVariants.{Done, DictionaryRefused, FetchFault, ReadFault, WriteFault, ScriptTooLong, NoMemory}
-use Rattle.interview.specs.Devices.{SentNothing, SentPart, SentWhole, ShelfFailed, SinkFailed, SourceFailed}
-use Rattle.interview.specs.Dictionaries.{Content, Gives, HasFault, IsAcceptedAs, MayGive}
-use Rattle.interview.specs.Given.{Did, EndedAs, Given, IsOneOf, Unread}
-use Rattle.interview.specs.Interview.{Defined, defined_fault}
-use Rattle.interview.specs.Save.{SavesTo, ScriptSaves, save_meaning}
-use Rattle.interview.specs.ScriptEnds.{ReadThrough}
-use Rattle.interview.specs.Words.{IsSave, Origin, file, program}
+use Rattle.script_runs.specs.declared.status.Status.{Status}
+use Rattle.script_runs.specs.declared.status.Status.TheVariants.{Done, DictionaryRefused, FetchFault, ReadFault, WriteFault, ScriptTooLong, NoMemory}
+use Rattle.script_runs.specs.Devices.{SentNothing, SentPart, SentWhole, ShelfFailed, SinkFailed, SourceFailed}
+use Rattle.interview_ends.specs.Dictionaries.{Content, Gives, HasFault, IsAcceptedAs, MayGive}
+use Rattle.interview_ends.specs.Given.{Did, EndedAs, Given, IsOneOf, Unread}
+use Rattle.script_runs.specs.DefinedScript.{Defined}
+use Rattle.interview_ends.specs.DefinedEnds.{defined_fault}
+use Rattle.interview_ends.specs.Save.{SavesTo, ScriptSaves, save_meaning}
+use Rattle.script_runs.specs.ScriptEnds.{ReadThrough}
+use Rattle.interview.specs.Words.{IsSave}
+use Rattle.interview_ends.specs.Origins.{Origin, file, program}
 
 -- ---- how it ends
 

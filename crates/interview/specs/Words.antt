@@ -5,33 +5,21 @@ use Rattle.std.specs.declared.alloc.Global.{Global}
 use Rattle.built_in.specs.declared.built_in.BuiltIn.{BuiltIn}
 use Rattle.built_in.specs.declared.built_in.BuiltIn.TheVariants.{Year, Income}
 use Rattle.built_in.specs.BuiltIns.{program_income_of}
-use Rattle.interview.specs.declared.words.Mode.{Mode}
-use Rattle.interview.specs.declared.words.Mode.TheVariants.{Incremental, Plain, Desk}
-use Rattle.interview.specs.declared.words.Origin.{Origin as Asked}
-use Rattle.interview.specs.declared.words.Origin.TheVariants as asked
-use Rattle.interview.specs.declared.words.Beginning.{Beginning as AskedBeginning}
-use Rattle.interview.specs.declared.words.Beginning.TheVariants as beginnings
+use Rattle.script_runs.specs.declared.mode.Mode.{Mode}
+use Rattle.script_runs.specs.declared.mode.Mode.TheVariants.{Incremental, Plain, Desk}
 use Rattle.interview.specs.declared.words.Form.{Form}
 use Rattle.interview.specs.declared.words.Form.TheVariants.{Run, Check, Gen, Save, Unknown}
+use Rattle.fg_io.specs.Outside.{Files, Input}
+use Rattle.dictionary.specs.AcceptedParts.{Named}
+use Rattle.interview_ends.specs.Given.{Given, given_with}
+use Rattle.interview_ends.specs.Origins.{Origin, file, program, Beginning, unanswered, by_load, by_carry, origin_of, beginning_of}
 
 -- ---- a run
-
--- where its dictionary comes from: the file of a name, or the program, which brings it with it
-pub data Origin : Type 0 where
-  file : List ℕ → Origin
-  program : BuiltIn → Origin
 
 -- the words run a script over a dictionary that the program brings: that of a year, and that of an income that it has words for
 abbrev pub AreFor : List (List ℕ) → BuiltIn → Type 0
 AreFor words (Year y) = (word : List ℕ) × (words ≡ codes "year" ∷ word ∷ []) × (year_of_word word ≡ Some y)
 AreFor words (Income y) = (word : List ℕ) × (words ≡ codes "income" ∷ word ∷ []) × (program_income_of word ≡ Some y)
-
--- where the answers at the start of a run come from: there are none, or they are those of the saved text of this name, which is
--- loaded, or carried
-pub data Beginning : Type 0 where
-  unanswered : Beginning
-  by_load : List ℕ → Beginning
-  by_carry : List ℕ → Beginning
 
 -- the words carry the saved text to a dictionary that the program brings: to that of a year alone
 abbrev pub AreCarriedTo : List (List ℕ) → BuiltIn → List ℕ → Type 0
@@ -96,15 +84,6 @@ Fetches words name = IsRun words (file name) ⊎ IsCheck words name
 abbrev pub HasNoForm : List (List ℕ) → Type 0
 HasNoForm words = ((origin : Origin) → IsRun words origin → ⊥) × ((name : List ℕ) → IsCheck words name → ⊥) × ((n : ℕ) → IsGen words n → ⊥) × ((origin : Origin) → IsSave words origin → ⊥)
 
-abbrev pub origin_of : Asked → Origin
-origin_of (asked.File name) = file name.now
-origin_of (asked.BuiltIn b) = program b
-
-abbrev pub beginning_of : AskedBeginning → Beginning
-beginning_of beginnings.Unanswered = unanswered
-beginning_of (beginnings.Load name) = by_load name.now
-beginning_of (beginnings.Carry name) = by_carry name.now
-
 abbrev pub IsForm : List (List ℕ) → Form → Type 0
 IsForm words (Run mode origin beginning) = IsRunOver words (origin_of origin) (beginning_of beginning) mode
 IsForm words (Check name) = IsCheck words name.now
@@ -114,3 +93,6 @@ IsForm words Unknown = HasNoForm words
 
 abbrev pub texts : List (String Global) → List (List ℕ)
 texts words = map string_bytes words
+
+abbrev pub given_by : List (String Global) → List Named → List Named → Files → Input → Given
+given_by words checks relations files source = given_with (texts words) checks relations files source

@@ -1,12 +1,12 @@
 // Laws of the defined interview: it has one end at most, the engines agree, and the devices are called in a stated order. Each
 // function's contract is a law.
-ghost use Rattle.interview.specs.CallOrder.{EachLineIsOnePiece, NameThenSaved, NoCallBehindAFailedOne};
-ghost use Rattle.interview.specs.CallOrder.{NothingIsFetched, PullsFollowReplies};
+ghost use Rattle.interview.specs.CallOrder.{EachLineIsOnePiece, NameThenSaved, NoCallBehindAFailedOne, NothingIsFetched, PullsFollowReplies};
 ghost use Rattle.interview.specs.Engines.{EnginesAgree, LinesAgree, RunsAgree};
-ghost use Rattle.interview.specs.Interview.{OneEndOfCheck, OneEndOfRun};
-ghost use Rattle.interview.specs.Load.{OneEndOfGen};
-ghost use Rattle.interview.specs.Save.{OneEndOfSave};
-ghost use Rattle.interview.specs.Exchange.{PiecesFollowReplies};
+ghost use Rattle.interview_ends.specs.DefinedEnds.{OneEndOfCheck};
+ghost use Rattle.interview.specs.Interview.{OneEndOfRun};
+ghost use Rattle.interview_ends.specs.Load.{OneEndOfGen};
+ghost use Rattle.interview_ends.specs.Save.{OneEndOfSave};
+ghost use Rattle.script_runs.specs.Exchange.{PiecesFollowReplies};
 
 use fg_io::{Shelf, Sink, Source};
 

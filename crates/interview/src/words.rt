@@ -4,38 +4,9 @@ ghost use Rattle.interview.specs.Words.{IsForm, texts};
 
 use built_in::{BuiltIn, program_income_named};
 use fact_paths::read_member_number;
+use interview_ends::{Beginning, Origin};
+use script_runs::Mode;
 use tax_2023::year_named;
-
-/// Where the dictionary of a run comes from.
-#[derive(Clone, Copy)]
-pub enum Origin<'a> {
-    /// The file of this name.
-    File(&'a str),
-    /// The program, which brings it with it.
-    BuiltIn(BuiltIn),
-}
-
-/// Where the answers at the start of a run come from.
-#[derive(Clone, Copy)]
-pub enum Beginning<'a> {
-    /// Nothing is answered.
-    Unanswered,
-    /// The saved text of this name, which is one of the dictionary's own.
-    Load(&'a str),
-    /// What may stand of the saved text of this name.
-    Carry(&'a str),
-}
-
-/// How the lines of a script are answered.
-#[derive(Clone, Copy)]
-pub enum Mode {
-    /// By a session over the incremental engine, which numbers the changes and keeps stamps.
-    Incremental,
-    /// By a session over the whole table, made anew by each change, without stamps.
-    Plain,
-    /// By a desk of several parties, over the incremental engine.
-    Desk,
-}
 
 /// What the words of the command line ask for.
 #[derive(Clone, Copy)]

@@ -1,4 +1,4 @@
-use Rattle.interview.proofs.LoadLaws.{one_gen}
+use Rattle.interview_ends.proofs.LoadLaws.{one_gen}
 use Rattle.interview.proofs.laws.a_gen_has_one_end.Goals as goal
 
 pub returns : goal.returns

@@ -1,4 +1,4 @@
-use Rattle.interview.proofs.SoFarLaws.{pieces_follow_replies}
+use Rattle.script_runs.proofs.SoFarLaws.{pieces_follow_replies}
 use Rattle.interview.proofs.laws.pieces_follow_replies.Goals as goal
 
 pub returns : goal.returns

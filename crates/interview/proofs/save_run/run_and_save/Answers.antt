@@ -1,17 +1,17 @@
 use Rattle.std.proofs.Common.{◌≡◌, ◌++◌, codes, inl, inr, refl}
-use Rattle.interview.specs.FaultLines.{fault_name, fault_place}
-use Rattle.interview.specs.declared.status.Status.TheVariants.{DictionaryRefused, FetchFault}
-use Rattle.interview.proofs.LastLineLaws.{puts_line}
+use Rattle.interview_ends.specs.FaultLines.{fault_name, fault_place}
+use Rattle.script_runs.specs.declared.status.Status.TheVariants.{DictionaryRefused, FetchFault}
+use Rattle.interview_ends.proofs.LastLineLaws.{puts_line}
 use Rattle.text_checks.specs.Tables.{named_checks}
 use Rattle.graph_session.specs.Rules.{rules}
-use Rattle.interview.specs.Calls.{beside}
+use Rattle.interview_ends.specs.CallsFor.{beside}
 use Rattle.fact_watch.specs.Tables.{named_relations}
-use Rattle.interview.specs.Given.{did_by}
-use Rattle.interview.specs.Save.{save_meaning}
-use Rattle.interview.specs.ScriptEnds.{script_did}
-use Rattle.interview.specs.Words.{origin_of}
-use Rattle.interview.proofs.CallLaws.{in_vain, never_by_save, never_by_text, none_as}
-use Rattle.interview.proofs.SaveLaws.{save_ends_refused, save_ends_run, save_ends_unobtained}
+use Rattle.interview_ends.specs.Given.{did_by}
+use Rattle.interview_ends.specs.Save.{save_meaning}
+use Rattle.script_runs.specs.ScriptEnds.{script_did}
+use Rattle.interview_ends.specs.Origins.{origin_of}
+use Rattle.interview_ends.proofs.CallsForLaws.{in_vain, never_by_save, never_by_text, none_as}
+use Rattle.interview.proofs.SaveRunLaws.{save_ends_refused, save_ends_run, save_ends_unobtained}
 use Rattle.interview.proofs.save_run.run_and_save.Goals as goal
 
 pub returns-in-Ok-Accepted : goal.returns-in-Ok-Accepted

@@ -1,15 +1,17 @@
 use Rattle.std.proofs.Common.{◌≡◌, ◌++◌, codes, inl, inr, refl}
-use Rattle.interview.specs.FaultLines.{fault_name, fault_place}
-use Rattle.interview.specs.declared.status.Status.TheVariants.{DictionaryRefused, FetchFault, Usage}
-use Rattle.interview.proofs.LastLineLaws.{puts_line}
+use Rattle.interview_ends.specs.FaultLines.{fault_name, fault_place}
+use Rattle.script_runs.specs.declared.status.Status.TheVariants.{DictionaryRefused, FetchFault, Usage}
+use Rattle.interview_ends.proofs.LastLineLaws.{puts_line}
 use Rattle.text_checks.specs.Tables.{named_checks}
-use Rattle.interview.specs.Words.{IsRun, beginning_of, origin_of, texts}
+use Rattle.interview.specs.Words.{IsRun, texts, given_by}
+use Rattle.interview_ends.specs.Origins.{beginning_of, origin_of}
 use Rattle.fact_watch.specs.Tables.{named_relations}
 use Rattle.graph_session.specs.Rules.{rules}
-use Rattle.interview.specs.Calls.{beside}
-use Rattle.interview.specs.Given.{did_by, given_by}
-use Rattle.interview.proofs.CallLaws.{calls_of_check, calls_of_gen, calls_of_none, calls_of_run, calls_of_save, in_vain, never_by_text, none_as, exchange_same}
-use Rattle.interview.proofs.CheckLaws.{ends_check}
+use Rattle.interview_ends.specs.CallsFor.{beside}
+use Rattle.interview_ends.specs.Given.{did_by}
+use Rattle.interview.proofs.CallLaws.{calls_of_check, calls_of_gen, calls_of_none, calls_of_run, calls_of_save}
+use Rattle.interview_ends.proofs.CallsForLaws.{in_vain, never_by_text, none_as, exchange_same}
+use Rattle.interview.proofs.CheckEndLaws.{ends_check}
 use Rattle.interview.proofs.GenLaws.{interviewed_by_word}
 use Rattle.interview.proofs.TopLaws.{accepted_run, ends_refused, ends_run, ends_unknown, ends_unobtained, faulty_run}
 use Rattle.interview.proofs.top.interview.Goals as goal

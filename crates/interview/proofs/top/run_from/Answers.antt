@@ -1,12 +1,12 @@
 use Rattle.std.proofs.Common.{◌≡◌, Err, Ok, codes, inl, inr, refl}
 use Rattle.std.specs.Prelude.{IsErrOf}
 use Rattle.session_lines.specs.Replies.{numbered}
-use Rattle.interview.specs.declared.status.Status.TheVariants.{FetchFault, SavedRefused}
-use Rattle.interview.proofs.LastLineLaws.{puts_line}
-use Rattle.interview.specs.Calls.{beside}
-use Rattle.interview.specs.Words.{beginning_of}
-use Rattle.interview.specs.declared.resuming.Resumed.{Resumed}
-use Rattle.interview.proofs.CallLaws.{as_error, error_is, never_by_start, never_by_text, no_error, saved_as, exchange_from}
+use Rattle.script_runs.specs.declared.status.Status.TheVariants.{FetchFault, SavedRefused}
+use Rattle.interview_ends.proofs.LastLineLaws.{puts_line}
+use Rattle.interview_ends.specs.CallsFor.{beside}
+use Rattle.interview_ends.specs.Origins.{beginning_of}
+use Rattle.interview_ends.specs.declared.resuming.Resumed.{Resumed}
+use Rattle.interview_ends.proofs.CallsForLaws.{as_error, error_is, never_by_start, never_by_text, no_error, saved_as, exchange_from}
 use Rattle.interview.proofs.StartLaws.{begins_and_ends}
 use Rattle.interview.proofs.top.run_from.Goals as goal
 

@@ -1,5 +1,5 @@
 use Rattle.std.proofs.Common.{arith}
-use Rattle.interview.proofs.LoadLaws.{not_spelled, too_many}
+use Rattle.interview.proofs.GenWordLaws.{not_spelled, too_many}
 use Rattle.interview.proofs.words.form_of_gen.Goals as goal
 
 pub returns-else-n-le1000 : goal.returns-else-n-le1000

@@ -1,0 +1,8 @@
+pub mod CallsForLaws
+pub mod CheckLaws
+pub mod DictionaryLaws
+pub mod FirstWords
+pub mod LastLineLaws
+pub mod LoadLaws
+pub mod ResumeLaws
+pub mod SaveLaws

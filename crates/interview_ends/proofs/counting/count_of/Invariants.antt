@@ -1,0 +1,10 @@
+use Rattle.std.proofs.Common.{◌≡◌, ◌+◌, ◌≤◌, length}
+use Rattle.script_lines.specs.Lines.{lines_of}
+use Rattle.interview_ends.specs.Summary.{count_of}
+use Rattle.interview_ends.proofs.counting.count_of.Given as goal
+
+abbrev pub invariant-loop-rest : goal.invariant-loop-rest
+invariant-loop-rest l = (l.count + count_of l.word (lines_of l.rest) ≡ count_of l.word (lines_of l.fn.text)) × (l.count + length l.rest ≤ length l.fn.text)
+
+abbrev pub decreases-loop-rest : goal.decreases-loop-rest
+decreases-loop-rest l = length l.rest

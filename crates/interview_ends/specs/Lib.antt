@@ -1,0 +1,12 @@
+pub mod CallsFor
+pub mod DefinedEnds
+pub mod Origins
+pub mod Beginnings
+pub mod Dictionaries
+pub mod FaultLines
+pub mod StepEnds
+pub mod Given
+pub mod LastLines
+pub mod Load
+pub mod Save
+pub mod Summary

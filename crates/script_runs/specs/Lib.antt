@@ -1,0 +1,9 @@
+pub mod Codes
+pub mod DefinedScript
+pub mod Exchange
+pub mod Meanings
+pub mod AnsweredLines
+pub mod SoFar
+pub mod Devices
+pub mod ScriptEnds
+pub mod StepsOfScript
